@@ -1,0 +1,10 @@
+-- Every bench figure marked P holds of the definitions, by computing.
+-- Assumes nothing.
+use mathlib.Core.Path.{_≡_, refl}
+use mathlib.Core.List.{map}
+use Rattle.sum.specs.Sum.{sumOf, bit}
+use Rattle.rows.specs.Figures.{worked, figure, figures}
+
+pub figures-hold : map worked figures ≡ map figure figures
+unfolding sumOf bit
+figures-hold = refl
