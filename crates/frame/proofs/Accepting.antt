@@ -1,0 +1,77 @@
+-- A frame is accepted exactly when it is acceptable: none of the rules holds.
+-- Assumes nothing.
+use mathlib.Core.Bool.{Bool, true, false, not}
+use mathlib.Core.List.{List, [], _∷_, _++_}
+use mathlib.Core.Path.{_≡_, refl, sym, ap, _∙_}
+use Prim.Native.Nat.{ℕ, _≤_, _<_}
+use native.Mathlib.Omega.{arith}
+use lib.Dec.{eqb, ltb, leb}
+use borrow.Author.Tests.{eq-eqb, ne-eqb, le-ltb, le-leb, lt-leb, eqb-true, eqb-false, ltb-false, leb-false, not-false}
+use Rattle.frame.specs.Frame.{nstOf}
+use Rattle.frame.specs.Rules.{Rule, _when_, first, rulesOf, refusalOf, Acceptable, streamRefusalOf}
+use Rattle.frame.proofs.Rules.{NoneHold, none-hold, none-first, first-zero, first-found}
+
+nothing : (f : List ℕ) → refusalOf f ≡ 0 → NoneHold (rulesOf f)
+unfolding refusalOf
+nothing f e = none-hold (rulesOf f) (tt, (tt, (tt, (tt, (tt, (tt, (tt, (tt, (tt, (tt, tt)))))))))) e
+
+pub acceptable : (f : List ℕ) → refusalOf f ≡ 0 → Acceptable f
+acceptable f e =
+    let p = nothing f e in
+    record {
+      whole = eqb-true _ _ (not-false _ (p .0));
+      synced = ltb-false _ _ (p .1 .0);
+      status = ltb-false _ _ (p .1 .1 .0);
+      carrying = eqb-false _ _ (p .1 .1 .1 .0);
+      streams = ltb-false _ _ (p .1 .1 .1 .1 .0);
+      headed = eqb-true _ _ (not-false _ (p .1 .1 .1 .1 .1 .0));
+      counted = ltb-false _ _ (p .1 .1 .1 .1 .1 .1 .0);
+      lengths = p .1 .1 .1 .1 .1 .1 .1 .0;
+      formula = eqb-true _ _ (not-false _ (p .1 .1 .1 .1 .1 .1 .1 .1 .0));
+      room = ltb-false _ _ (p .1 .1 .1 .1 .1 .1 .1 .1 .1 .0);
+    }
+
+unequal : {a b : ℕ} → a ≡ b → not (eqb a b) ≡ false
+unequal {a} {b} e = rw (eq-eqb a b e)
+
+pub accepted : (f : List ℕ) → Acceptable f → refusalOf f ≡ 0
+unfolding refusalOf
+accepted f a =
+    none-first (rulesOf f) (
+      unequal (a .whole),
+      (
+        le-ltb _ _ (a .synced),
+        (
+          le-ltb _ _ (a .status),
+          (
+            ne-eqb _ _ (a .carrying),
+            (
+              le-ltb _ _ (a .streams),
+              (
+                unequal (a .headed),
+                (le-ltb _ _ (a .counted), (a .lengths, (unequal (a .formula), (le-ltb _ _ (a .room), tt)))),
+              ),
+            ),
+          ),
+        ),
+      ),
+    )
+
+-- a request for stream i, by reading's refusal n, and in an accepted frame by the count
+module _ (f : List ℕ) (i n : ℕ) (e : n ≡ refusalOf f) where
+  pub request-refused : (n ≡ 0 → ⊥) → n ≡ streamRefusalOf f i
+  unfolding refusalOf streamRefusalOf
+  request-refused h = e ∙ sym (first-found (rulesOf f) ((13 when leb (nstOf f) i) ∷ []) (λ z. h (e ∙ z)))
+
+  goes-on : n ≡ 0 → streamRefusalOf f i ≡ first ((13 when leb (nstOf f) i) ∷ [])
+  unfolding streamRefusalOf
+  goes-on z = first-zero (rulesOf f) ((13 when leb (nstOf f) i) ∷ []) (nothing f (sym e ∙ z))
+
+  pub request-beyond : n ≡ 0 → nstOf f ≤ i → 13 ≡ streamRefusalOf f i
+  request-beyond z h = rw (goes-on z, le-leb (nstOf f) i h)
+
+  pub request-within : n ≡ 0 → i < nstOf f → 0 ≡ streamRefusalOf f i
+  request-within z h = rw (goes-on z, lt-leb (nstOf f) i h)
+
+  pub request-granted : n ≡ 0 → streamRefusalOf f i ≡ 0 → i < nstOf f
+  request-granted z d = leb-false (nstOf f) i (none-hold ((13 when leb (nstOf f) i) ∷ []) (tt, tt) (sym (goes-on z) ∙ d) .0)

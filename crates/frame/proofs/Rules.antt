@@ -1,0 +1,75 @@
+-- The first rule that holds: each refusal is given when its condition holds and no earlier one does, and at no other time.
+-- Assumes nothing.
+use mathlib.Core.Bool.{Bool, true, false, not}
+use mathlib.Core.List.{List, [], _∷_, _++_}
+use mathlib.Core.Logic.{_⊎_, inl, inr}
+use mathlib.Core.Path.{_≡_, refl, sym, ap, _∙_}
+use Prim.Native.Nat.{ℕ, _<_}
+use native.Mathlib.Omega.{arith}
+use lib.Dec.{T, eqb, ltb, ltb→lt}
+use borrow.Author.Tests.{eq-eqb, ne-eqb}
+use Rattle.frame.specs.Frame.{pick}
+use Rattle.frame.specs.Rules.{Rule, _when_, first}
+
+-- no rule holds
+abbrev pub NoneHold : List Rule → Type 0
+NoneHold [] = Unit {0}
+NoneHold ((n when b) ∷ rs) = (b ≡ false) × NoneHold rs
+
+-- every number is above 0, so that 0 says that no rule holds
+abbrev pub Numbered : List Rule → Type 0
+Numbered [] = Unit {0}
+Numbered ((n when b) ∷ rs) = T (ltb 0 n) × Numbered rs
+
+-- rule n holds, and no earlier one
+pub record FirstToHold (rs : List Rule) (n : ℕ) : Type 0 where
+  pub before : List Rule
+  pub after : List Rule
+  pub stands : rs ≡ before ++ ((n when true) ∷ after)
+  pub none : NoneHold before
+
+pub given : (before : List Rule) (n : ℕ) (after : List Rule) → NoneHold before → first (before ++ ((n when true) ∷ after)) ≡ n
+given [] n after h = refl
+given ((m when b) ∷ before) n after h = rw (h .0) (given before n after (h .1))
+
+-- 0 and no rule holds, or the number of the first that does
+abbrev pub Settled : List Rule → Type 0
+Settled rs = ((first rs ≡ 0) × NoneHold rs) ⊎ FirstToHold rs (first rs)
+
+later : (n : ℕ) (rs : List Rule) → Settled rs → Settled ((n when false) ∷ rs)
+later n rs (inl h) = inl (h .0, (refl, h .1))
+later n rs (inr h) =
+    inr
+    (record {
+      before = (n when false) ∷ h .before;
+      after = h .after;
+      stands = ap (λ (l : List Rule). (n when false) ∷ l) (h .stands);
+      none = (refl, h .none);
+    })
+
+pub only : (rs : List Rule) → Settled rs
+only [] = inl (refl, tt)
+only ((n when true) ∷ rs) = inr (record { before = []; after = rs; stands = refl; none = tt })
+only ((n when false) ∷ rs) = later n rs (only rs)
+
+-- a first number that is 0, and one that is not, of rules that come before others
+passed : (b : Bool) (n m : ℕ) → T (ltb 0 n) → pick b n m ≡ 0 → (b ≡ false) × (m ≡ 0)
+passed true n m l e = let p = ltb→lt 0 n l in absurd (omega arith)
+passed false n m l e = (refl, e)
+
+pub none-hold : (rs : List Rule) → Numbered rs → first rs ≡ 0 → NoneHold rs
+none-hold [] k e = tt
+none-hold ((n when b) ∷ rs) k e = let p = passed b n (first rs) (k .0) e in (p .0, none-hold rs (k .1) (p .1))
+
+pub none-first : (rs : List Rule) → NoneHold rs → first rs ≡ 0
+none-first [] h = refl
+none-first ((n when b) ∷ rs) h = rw (h .0) (none-first rs (h .1))
+
+pub first-zero : (rs ts : List Rule) → NoneHold rs → first (rs ++ ts) ≡ first ts
+first-zero [] ts h = refl
+first-zero ((n when b) ∷ rs) ts h = rw (h .0) (first-zero rs ts (h .1))
+
+pub first-found : (rs ts : List Rule) → (first rs ≡ 0 → ⊥) → first (rs ++ ts) ≡ first rs
+first-found [] ts h = absurd (h refl)
+first-found ((n when true) ∷ rs) ts h = refl
+first-found ((n when false) ∷ rs) ts h = first-found rs ts h

@@ -1,0 +1,68 @@
+-- What reading answers, as the paper's numbers and values.
+-- Assumes nothing.
+use mathlib.Core.Bool.{Bool, true, false}
+use mathlib.Core.List.{List, [], _∷_, _++_}
+use mathlib.Core.Path.{_≡_}
+use Prim.Native.Nat.{ℕ, _+_, _-_}
+use lib.Dec.{eqb}
+use lib.ListN.{length, replicate}
+use denote.Ref.{RefT, now}
+use Rattle.frame.specs.declared.Answer.{Answer}
+use Rattle.frame.specs.declared.Answer.the-variants.{Accepted, Refused}
+use Rattle.frame.specs.declared.Header.{Header}
+use Rattle.frame.specs.declared.Reading.{Reading}
+use Rattle.frame.specs.declared.Span.{Span}
+use Rattle.frame.specs.declared.Stream.{Stream}
+use Rattle.frame.specs.declared.Timestamp.{Timestamp}
+use Rattle.frame.specs.declared.Timestamp.the-variants.{Absent, Time}
+use Rattle.frame.specs.Frame.{pick, placeIn, fsyncs, fsyncOf, fctOf, ficfOf, nstOf, fpOf, midOf, flOf, streamsOf, cut, mnscOf, rfuOf, rfaOf, timeOf, levelOf}
+use Rattle.frame.specs.Rules.{refusalOf}
+
+-- annex C.2: the sort, 0 where no timestamp is given and 1 for a time, and the number
+abbrev pub timestampValues : Timestamp → List ℕ
+timestampValues Absent = 0 ∷ 0xFFFFFF ∷ []
+timestampValues (Time n) = 1 ∷ n ∷ []
+
+abbrev pub digit : Bool → ℕ
+digit false = 0
+digit true = 1
+
+abbrev pub headerValues : Header → List ℕ
+headerValues h =
+    h .level ∷ digit (h .fsync1) ∷ h .fct ∷ digit (h .ficf) ∷ h .nst ∷ h .fp ∷ h .mid ∷ h .fl ∷ h .mnsc ∷ h .rfu ∷ h .rfa ∷ timestampValues (h .timestamp)
+
+-- an answer's number, 0 for accepted, and its values, none for refused
+abbrev pub numberOf : Answer → ℕ
+numberOf (Accepted h) = 0
+numberOf (Refused n) = n
+
+abbrev pub valuesOf : Answer → List ℕ
+valuesOf (Accepted h) = headerValues h
+valuesOf (Refused n) = []
+
+-- ---- what a frame's answer is to be
+-- FFFFFF means that no timestamp is given, every other number is a time
+unfoldable pub timestampIn : ℕ → List ℕ
+timestampIn n = pick (eqb n 0xFFFFFF) (0 ∷ n ∷ []) (1 ∷ n ∷ [])
+
+unfoldable pub fieldsOf : List ℕ → List ℕ
+fieldsOf f =
+    levelOf f ∷ placeIn fsyncs (fsyncOf f) ∷ fctOf f ∷ ficfOf f ∷ nstOf f ∷ fpOf f ∷ midOf f ∷ flOf f ∷ mnscOf f ∷ rfuOf f ∷ rfaOf f ∷ timestampIn (timeOf f)
+
+abbrev pub noStream : Stream
+noStream = record { scid = 0; sad = 0; tpl = 0; stl = 0 }
+
+-- the table of 64: zero beyond the entries
+unfoldable pub tableBy : List Stream → List Stream
+tableBy ss = ss ++ replicate (64 - length ss) noStream
+
+-- the reading r of the bytes f
+pub record Reads (f : List ℕ) (r : Reading) : Type 0 where
+  pub number : numberOf (r .answer) ≡ refusalOf f
+  pub values : valuesOf (r .answer) ≡ pick (eqb (refusalOf f) 0) (fieldsOf f) []
+  pub table : r .table ≡ pick (eqb (refusalOf f) 0) (tableBy (streamsOf f)) (tableBy [])
+
+-- r is the part p of the lent frame s: its bytes, and its place
+pub record PartAt (s : RefT (List ℕ)) (p : Span) (r : RefT (List ℕ)) : Type 0 where
+  pub bytes : now r ≡ cut (now s) p
+  pub place : r .ptr ≡ (s .ptr .0, p .start + s .ptr .1)

@@ -1,0 +1,72 @@
+-- When a frame is refused, and with which number.
+-- Assumes nothing.
+use mathlib.Core.Bool.{Bool, true, false, not, _||_}
+use mathlib.Core.List.{List, [], _∷_, _++_}
+use mathlib.Core.Path.{_≡_}
+use Prim.Native.Nat.{ℕ, _≤_}
+use lib.Dec.{eqb, ltb, leb}
+use lib.ListN.{length}
+use Rattle.sum.specs.Sum.{sumOf}
+use Rattle.frame.specs.declared.Span.{Span}
+use Rattle.frame.specs.declared.Stream.{Stream}
+use Rattle.frame.specs.Words.{wordAt}
+use Rattle.frame.specs.Frame.{pick, placeIn, statuses, errOf, fsyncs, fsyncOf, fctOf, nstOf, flOf, ficlOf, streamsOf, stlTotal, flBy, headerBytesOf, headerSumOf, ficSpan, streamSpan}
+
+-- a rule: the refusal's number, and whether its condition holds
+infix 20 _when_
+pub data Rule : Type 0 where
+  _when_ : ℕ → Bool → Rule
+
+-- the number of the first rule that holds, and 0 where none does
+abbrev pub first : List Rule → ℕ
+first [] = 0
+first ((n when b) ∷ rs) = pick b n (first rs)
+
+unfoldable pub someStlAbove : ℕ → List Stream → Bool
+someStlAbove m [] = false
+someStlAbove m (s ∷ ss) = ltb m (s .stl) || someStlAbove m ss
+
+-- reading's rules, in number order
+abbrev pub rulesOf : List ℕ → List Rule
+rulesOf f =
+    (1 when not (eqb (length f) 6144))
+    ∷ (2 when ltb 1 (placeIn fsyncs (fsyncOf f)))
+    ∷ (3 when ltb 3 (placeIn statuses (errOf f)))
+    ∷ (4 when eqb (wordAt f 4) 0xFFFFFFFF)
+    ∷ (5 when ltb 64 (nstOf f))
+    ∷ (6 when not (eqb (sumOf (headerBytesOf f)) (headerSumOf f)))
+    ∷ (7 when ltb 249 (fctOf f))
+    ∷ (8 when someStlAbove 684 (streamsOf f))
+    ∷ (9 when not (eqb (flOf f) (flBy (nstOf f) (ficlOf f) (stlTotal (streamsOf f)))))
+    ∷ (10 when ltb 1532 (flOf f))
+    ∷ []
+
+unfoldable pub refusalOf : List ℕ → ℕ
+refusalOf f = first (rulesOf f)
+
+-- none of the rules holds, in plain words
+pub record Acceptable (f : List ℕ) : Type 0 where
+  pub whole : length f ≡ 6144
+  pub synced : placeIn fsyncs (fsyncOf f) ≤ 1
+  pub status : placeIn statuses (errOf f) ≤ 3
+  pub carrying : wordAt f 4 ≡ 0xFFFFFFFF → ⊥
+  pub streams : nstOf f ≤ 64
+  pub headed : sumOf (headerBytesOf f) ≡ headerSumOf f
+  pub counted : fctOf f ≤ 249
+  pub lengths : someStlAbove 684 (streamsOf f) ≡ false
+  pub formula : flOf f ≡ flBy (nstOf f) (ficlOf f) (stlTotal (streamsOf f))
+  pub room : flOf f ≤ 1532
+
+-- a request for stream i: reading's refusal first, then 13
+unfoldable pub streamRefusalOf : List ℕ → ℕ → ℕ
+streamRefusalOf f i = first (rulesOf f ++ ((13 when leb (nstOf f) i) ∷ []))
+
+-- what a request hands back: the part, or, refused, an empty part at the frame's start
+abbrev pub granted : ℕ → Span → Span
+granted refusal span = pick (eqb refusal 0) span (record { start = 0; len = 0 })
+
+unfoldable pub ficPart : List ℕ → Span
+ficPart f = granted (refusalOf f) (ficSpan f)
+
+unfoldable pub streamPart : List ℕ → ℕ → Span
+streamPart f i = granted (streamRefusalOf f i) (streamSpan f i)

@@ -1,0 +1,35 @@
+-- Clause 3.4: data is carried high byte first, high bit first. So a word is its fields put together by their widths in bits.
+-- Assumes nothing.
+use mathlib.Core.List.{List, [], _∷_}
+use Prim.Native.Nat.{ℕ, _+_, _*_, _/_, _%_, _^_, _<_}
+use lib.ListN.{getD}
+
+abbrev pub total : List ℕ → ℕ
+total [] = 0
+total (k ∷ ks) = k + total ks
+
+-- the fields of a word, the highest first
+abbrev pub split : List ℕ → ℕ → List ℕ
+split [] w = []
+split (k ∷ ks) w = w / 2 ^ total ks % 2 ^ k ∷ split ks w
+
+-- the word of these fields
+abbrev pub join : List ℕ → List ℕ → ℕ
+join [] vs = 0
+join (k ∷ ks) [] = 0
+join (k ∷ ks) (v ∷ vs) = v * 2 ^ total ks + join ks vs
+
+-- each field is within its width
+abbrev pub Fit : List ℕ → List ℕ → Type 0
+Fit [] [] = Unit {0}
+Fit [] (v ∷ vs) = ⊥
+Fit (k ∷ ks) [] = ⊥
+Fit (k ∷ ks) (v ∷ vs) = (v < 2 ^ k) × Fit ks vs
+
+-- a word's four bytes
+abbrev pub bytes4 : List ℕ
+bytes4 = 8 ∷ 8 ∷ 8 ∷ 8 ∷ []
+
+-- the word that begins at byte p
+abbrev pub wordAt : List ℕ → ℕ → ℕ
+wordAt f p = join bytes4 (getD f p 0 ∷ getD f (p + 1) 0 ∷ getD f (p + 2) 0 ∷ getD f (p + 3) 0 ∷ [])

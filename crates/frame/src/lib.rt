@@ -1,0 +1,49 @@
+// What a frame holds, as values.
+
+// A stream's entry in the table (clause 5.4.1).
+pub struct Stream {
+    pub scid: u8,
+    pub sad: u16,
+    pub tpl: u8,
+    pub stl: u16,
+}
+
+// The timestamp is of two sorts: none is given, or it is a time in periods of 16.384 MHz (annex C.2).
+pub enum Timestamp {
+    Absent,
+    Time(u32),
+}
+
+// The fields of an accepted frame. The sync word is FSYNC1 where fsync1 is set, else FSYNC0. The level is the one handed on.
+pub struct Header {
+    pub level: u8,
+    pub fsync1: bool,
+    pub fct: u8,
+    pub ficf: bool,
+    pub nst: u8,
+    pub fp: u8,
+    pub mid: u8,
+    pub fl: u16,
+    pub mnsc: u16,
+    pub rfu: u16,
+    pub rfa: u8,
+    pub timestamp: Timestamp,
+}
+
+// What reading answers: the header, or the number of the refusal.
+pub enum Answer {
+    Accepted(Header),
+    Refused(u8),
+}
+
+// The answer, and the stream table beside it.
+pub struct Reading {
+    pub answer: Answer,
+    pub table: [Stream; 64],
+}
+
+// A part of a frame: its first byte's place, and its length.
+pub struct Span {
+    pub start: usize,
+    pub len: usize,
+}

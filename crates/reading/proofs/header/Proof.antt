@@ -1,0 +1,37 @@
+use Rattle.reading.specs.Steps.{headerFor}
+use borrow.Author.Needs.{needs}
+use Rattle.reading.proofs.header.Statement.{statement}
+use Rattle.reading.proofs.header.Tie as tie
+
+returns : tie.Need-returns
+unfolding headerFor
+returns c = cc
+
+pub header-spec : {M : Type 1} → statement M
+header-spec =
+    tie.close
+    (tie.spec
+    (λ c κs. search needs)
+    (λ c κs. search needs)
+    (λ c κs. search needs)
+    (λ c. search needs)
+    (λ c κs. search needs)
+    (λ c κs. search needs)
+    (λ c κs. search needs)
+    (λ c. search needs)
+    (λ c κs. search needs)
+    (λ c κs. search needs)
+    (λ c. search needs)
+    (λ c κs. search needs)
+    (λ c. search needs)
+    (λ c κs. search needs)
+    (λ c. search needs)
+    (λ c κs. search needs)
+    (λ c. search needs)
+    (λ c κs. search needs)
+    (λ c. search needs)
+    (λ c κs. search needs)
+    (λ c. search needs)
+    (λ c κs. search needs)
+    (λ c. search needs)
+    returns)

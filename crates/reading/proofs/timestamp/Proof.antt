@@ -1,0 +1,16 @@
+use Rattle.frame.proofs.Tests.{tests}
+use Rattle.reading.specs.Steps.{timestampFor}
+use borrow.Author.Needs.{needs}
+use Rattle.reading.proofs.timestamp.Statement.{statement}
+use Rattle.reading.proofs.timestamp.Tie as tie
+
+returns : tie.Need-returns
+unfolding timestampFor
+returns c = search (needs, tests)
+
+returns-2 : tie.Need-returns-2
+unfolding timestampFor
+returns-2 c = search (needs, tests)
+
+pub timestamp-spec : {M : Type 1} → statement M
+timestamp-spec = tie.close (tie.spec returns (λ c. search needs) returns-2)

@@ -1,0 +1,66 @@
+-- What the steps of reading say to each other: the rules in two parts, the header as a value.
+-- Assumes nothing.
+use mathlib.Core.Bool.{Bool, not}
+use mathlib.Core.List.{List, [], _∷_}
+use mathlib.Core.Path.{_≡_}
+use Prim.Native.Nat.{ℕ, _+_, _*_, _≤_, _<_}
+use lib.Dec.{eqb, ltb}
+use lib.ListN.{length}
+use Rattle.sum.specs.Sum.{sumOf}
+use Rattle.frame.specs.declared.Header.{Header}
+use Rattle.frame.specs.declared.Timestamp.{Timestamp}
+use Rattle.frame.specs.declared.Timestamp.the-variants.{Absent, Time}
+use Rattle.frame.specs.Words.{wordAt}
+use Rattle.frame.specs.Frame.{pick, placeIn, statuses, errOf, fsyncs, fsyncOf, fctOf, ficfOf, nstOf, fpOf, midOf, flOf, ficlOf, streamsOf, stlTotal, flBy, headerBytesOf, headerSumOf, mnscOf, rfuOf, rfaOf, timeOf, levelOf}
+use Rattle.frame.specs.Rules.{Rule, _when_, someStlAbove, Acceptable}
+
+abbrev pub headRules : ℕ → ℕ → ℕ → ℕ → List Rule
+headRules fsync level fc nst =
+    (2 when ltb 1 fsync) ∷ (3 when ltb 3 level) ∷ (4 when eqb fc 0xFFFFFFFF) ∷ (5 when ltb 64 nst) ∷ []
+
+abbrev pub bodyRules : ℕ → ℕ → ℕ → Bool → ℕ → ℕ → List Rule
+bodyRules sum sent fct long fl formula =
+    (6 when not (eqb sum sent))
+    ∷ (7 when ltb 249 fct)
+    ∷ (8 when long)
+    ∷ (9 when not (eqb fl formula))
+    ∷ (10 when ltb 1532 fl)
+    ∷ []
+
+abbrev pub headRulesOf : List ℕ → List Rule
+headRulesOf f = headRules (placeIn fsyncs (fsyncOf f)) (placeIn statuses (errOf f)) (wordAt f 4) (nstOf f)
+
+abbrev pub bodyRulesOf : List ℕ → List Rule
+bodyRulesOf f =
+    bodyRules (sumOf (headerBytesOf f)) (headerSumOf f) (fctOf f) (someStlAbove 684 (streamsOf f)) (flOf f)
+    (flBy (nstOf f) (ficlOf f) (stlTotal (streamsOf f)))
+
+-- a whole frame, and as many entries as stand within it
+pub record Counted (f : List ℕ) (n : ℕ) : Type 0 where
+  pub whole : length f ≡ 6144
+  pub few : n ≤ 127
+
+unfoldable pub timestampFor : ℕ → Timestamp
+timestampFor n = pick (eqb n 0xFFFFFF) Absent (Time n)
+
+unfoldable pub headerFor : List ℕ → Header
+headerFor f =
+    record {
+      level = levelOf f;
+      fsync1 = eqb (placeIn fsyncs (fsyncOf f)) 1;
+      fct = fctOf f;
+      ficf = eqb (ficfOf f) 1;
+      nst = nstOf f;
+      fp = fpOf f;
+      mid = midOf f;
+      fl = flOf f;
+      mnsc = mnscOf f;
+      rfu = rfuOf f;
+      rfa = rfaOf f;
+      timestamp = timestampFor (timeOf f);
+    }
+
+-- an acceptable frame that has stream i
+pub record Has (f : List ℕ) (i : ℕ) : Type 0 where
+  pub frame : Acceptable f
+  pub there : i < nstOf f
