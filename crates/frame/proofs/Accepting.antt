@@ -1,14 +1,13 @@
 -- A frame is accepted exactly when it is acceptable: none of the rules holds.
 -- Assumes nothing.
-use mathlib.Core.Bool.{Bool, true, false, not}
-use mathlib.Core.List.{List, [], _∷_, _++_}
-use mathlib.Core.Path.{_≡_, refl, sym, ap, _∙_}
+use mathlib.Core.Bool.{false, not}
+use mathlib.Core.List.{List, [], _∷_}
+use mathlib.Core.Path.{_≡_, sym, _∙_}
 use Prim.Native.Nat.{ℕ, _≤_, _<_}
-use native.Mathlib.Omega.{arith}
-use lib.Dec.{eqb, ltb, leb}
+use lib.Dec.{eqb, leb}
 use borrow.Author.Tests.{eq-eqb, ne-eqb, le-ltb, le-leb, lt-leb, eqb-true, eqb-false, ltb-false, leb-false, not-false}
 use Rattle.frame.specs.Frame.{nstOf}
-use Rattle.frame.specs.Rules.{Rule, _when_, first, rulesOf, refusalOf, Acceptable, streamRefusalOf}
+use Rattle.frame.specs.Rules.{_when_, first, rulesOf, refusalOf, Acceptable, streamRefusalOf}
 use Rattle.frame.proofs.Rules.{NoneHold, none-hold, none-first, first-zero, first-found}
 
 nothing : (f : List ℕ) → refusalOf f ≡ 0 → NoneHold (rulesOf f)

@@ -4,16 +4,16 @@ use mathlib.Core.Bool.{Bool, true, false}
 use mathlib.Core.List.{List, [], _∷_, _++_}
 use mathlib.Core.Logic.{⊎-elim}
 use mathlib.Core.Path.{_≡_, refl, sym, ap, subst, _∙_}
-use Prim.Native.Nat.{ℕ, zero, suc, _+_, _-_, _*_, _≤_, _<_}
+use Prim.Native.Nat.{ℕ, zero, suc, _+_, _-_, _≤_, _<_}
 use native.Mathlib.Nat.{eq-or-lt-of-le, le-of-suc-le-suc}
 use native.Mathlib.Numerals.{add-one}
 use native.Mathlib.Omega.{arith}
-use lib.Dec.{eqb, leb}
+use lib.Dec.{eqb}
 use lib.ListN.{length}
 use lib.Seq.{take-add, drop-drop}
-use borrow.Author.Tests.{eq-eqb, ne-eqb, eqb-true, eqb-false, leb-false}
+use borrow.Author.Tests.{eq-eqb, ne-eqb, eqb-true, eqb-false}
 use Rattle.frame.specs.declared.Span.{Span}
-use Rattle.frame.specs.Frame.{pick, nstOf, flOf, ficlOf, streamOf, streamsTo, streamsOf, stlTotal, mainStart, mainEnd, ficSpan, streamSpan, spansTo, Tile, cut, cuts, mainOf, carriedBy, between}
+use Rattle.frame.specs.Frame.{pick, nstOf, flOf, streamOf, streamsTo, stlTotal, mainStart, mainEnd, ficSpan, streamSpan, spansTo, Tile, cuts, mainOf, carriedBy, between}
 use Rattle.frame.specs.Rules.{refusalOf, Acceptable, streamRefusalOf, granted, ficPart, streamPart}
 use Rattle.frame.proofs.Accepting.{acceptable, request-refused, request-granted}
 use Rattle.frame.proofs.Streams.{total-more}

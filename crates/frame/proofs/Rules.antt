@@ -1,13 +1,12 @@
 -- The first rule that holds: each refusal is given when its condition holds and no earlier one does, and at no other time.
 -- Assumes nothing.
-use mathlib.Core.Bool.{Bool, true, false, not}
+use mathlib.Core.Bool.{Bool, true, false}
 use mathlib.Core.List.{List, [], _∷_, _++_}
 use mathlib.Core.Logic.{_⊎_, inl, inr}
-use mathlib.Core.Path.{_≡_, refl, sym, ap, _∙_}
-use Prim.Native.Nat.{ℕ, _<_}
+use mathlib.Core.Path.{_≡_, refl, ap}
+use Prim.Native.Nat.{ℕ}
 use native.Mathlib.Omega.{arith}
-use lib.Dec.{T, eqb, ltb, ltb→lt}
-use borrow.Author.Tests.{eq-eqb, ne-eqb}
+use lib.Dec.{T, ltb, ltb→lt}
 use Rattle.frame.specs.Frame.{pick}
 use Rattle.frame.specs.Rules.{Rule, _when_, first}
 

@@ -5,7 +5,7 @@ use mathlib.Core.List.{List, [], _∷_, _++_}
 use mathlib.Core.Path.{_≡_}
 use Prim.Native.Nat.{ℕ, zero, suc, _+_, _-_, _*_, max}
 use lib.Dec.{eqb}
-use lib.ListN.{getD, take, drop, replicate}
+use lib.ListN.{getD, take, drop}
 use Rattle.sum.specs.Sum.{sumOf}
 use Rattle.frame.specs.declared.Span.{Span}
 use Rattle.frame.specs.declared.Stream.{Stream}

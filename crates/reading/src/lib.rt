@@ -2,11 +2,11 @@
 ghost use mathlib.Core.List.{[]};
 ghost use mathlib.Core.Path.{_≡_};
 ghost use lib.Dec.{eqb};
-ghost use Prim.Native.Nat.{_+_, _-_, _*_, _/_, _%_, _<_, _≤_};
-ghost use lib.ListN.{length, getD, take, drop};
+ghost use Prim.Native.Nat.{_+_, _*_, _/_, _%_, _<_, _≤_};
+ghost use lib.ListN.{length, getD};
 ghost use Rattle.sum.specs.Sum.{sumOf};
 ghost use Rattle.frame.specs.Words.{wordAt};
-ghost use Rattle.frame.specs.Frame.{placeIn, statuses, fsyncs, errOf, fsyncOf, fctOf, ficfOf, nstOf, fpOf, midOf, flOf, mnscOf, headerSumOf, mainSumOf, rfuOf, rfaOf, timeOf, ficlBy, ficlOf, streamOf, streamsTo, stlTotal, flBy, mainStart, mainEnd, levelBy, levelOf, between, ficSpan, streamSpan};
+ghost use Rattle.frame.specs.Frame.{placeIn, statuses, fsyncs, errOf, fsyncOf, fctOf, ficfOf, nstOf, fpOf, midOf, flOf, mnscOf, headerSumOf, mainSumOf, rfuOf, rfaOf, timeOf, ficlBy, ficlOf, streamOf, streamsTo, stlTotal, levelBy, levelOf, between, ficSpan, streamSpan};
 ghost use Rattle.frame.specs.Rules.{first, someStlAbove, refusalOf, streamRefusalOf, ficPart, streamPart, Acceptable};
 ghost use Rattle.frame.specs.Answers.{tableBy, Reads, PartAt};
 ghost use Rattle.reading.specs.Steps.{headRules, bodyRules, headRulesOf, bodyRulesOf, headerFor, timestampFor, Counted, Has};
