@@ -1,0 +1,160 @@
+// Real frames for the rows that are run.
+ghost use Prim.Native.Nat.{_≤_};
+
+// What a frame is built from; the FL is the formula's plus `longer`, the sums are the right ones plus what is said.
+pub struct Given {
+    pub sync: u32,
+    pub fct: u8,
+    pub ficf: u8,
+    pub nst: u8,
+    pub mid: u8,
+    // each stream's STL but the last's, and the last's
+    pub stl: u16,
+    pub last: u16,
+    pub longer: u8,
+    pub header_off: u8,
+    pub main_off: u8,
+    pub time: u32,
+}
+
+// Level 0, FSYNC0, FCT 17, the FIC of mode I, one stream of STL 24, no timestamp.
+pub fn plain() -> Given {
+    Given {
+        sync: 0xff073ab6,
+        fct: 17,
+        ficf: 1,
+        nst: 1,
+        mid: 1,
+        stl: 24,
+        last: 24,
+        longer: 0,
+        header_off: 0,
+        main_off: 0,
+        time: 0xffffff,
+    }
+}
+
+fn put1(frame: &mut [u8], at: usize, b: u8) {
+    if at < frame.len() {
+        frame[at] = b;
+    }
+}
+
+fn put2(frame: &mut [u8], at: usize, n: u16) {
+    if at < 65536 {
+        put1(frame, at, (n / 256) as u8);
+        put1(frame, at + 1, (n % 256) as u8);
+    }
+}
+
+fn put4(frame: &mut [u8], at: usize, n: u32) {
+    if at < 65536 {
+        put2(frame, at, (n / 65536) as u16);
+        put2(frame, at + 2, (n % 65536) as u16);
+    }
+}
+
+// The STL of stream i.
+fn stl(g: Given, i: u8) -> u16 {
+    let n = g.nst;
+    if i < n {
+        if i == n - 1 {
+            return g.last;
+        }
+    }
+    g.stl
+}
+
+// SCID 1 and up, SAD 54, TPL 34.
+fn put_table(frame: &mut [u8], g: Given) {
+    let n = g.nst;
+    let mut i: u8 = 0;
+    while i < n {
+        let s = stl(g, i);
+        let word = ((i % 63 + 1) as u32) * 67108864 + 54 * 65536 + 34 * 1024 + (s % 1024) as u32;
+        put4(frame, 8 + (i as usize) * 4, word);
+        i += 1;
+    }
+}
+
+// The main stream's length in words of four bytes.
+fn words(g: Given) -> usize
+    ensures { λ r. ⌜ r ≤ 33423402 ⌝ }
+{
+    let n = g.nst;
+    let mut words = fic_words(g.ficf, g.mid);
+    let mut i: u8 = 0;
+    while i < n {
+        let s = stl(g, i);
+        words += 2 * (s as usize);
+        i += 1;
+    }
+    words
+}
+
+fn fic_words(ficf: u8, mid: u8) -> usize
+    ensures { λ r. ⌜ r ≤ 32 ⌝ }
+{
+    if ficf == 0 {
+        return 0;
+    }
+    if mid == 3 { 32 } else { 24 }
+}
+
+// The bytes from start up to end, with no order in their bits.
+fn put_main(frame: &mut [u8], start: usize, end: usize) {
+    let mut i = start;
+    while i < end {
+        put1(frame, i, (i % 251) as u8);
+        i += 1;
+    }
+}
+
+// The sum of the bytes from start up to end, as many as there are.
+fn sum_between(frame: &[u8], start: usize, end: usize) -> u16 {
+    if start <= end {
+        if end <= frame.len() {
+            return sum::sum(&frame[start..end]);
+        }
+    }
+    0
+}
+
+fn fc(g: Given, fl: usize) -> u32 {
+    let fct = g.fct as u32;
+    let ficf = (g.ficf % 2) as u32;
+    let nst = (g.nst % 128) as u32;
+    let mid = (g.mid % 4) as u32;
+    fct * 16777216 + ficf * 8388608 + nst * 65536 + 5 * 8192 + mid * 2048 + (fl % 2048) as u32
+}
+
+// The header, with MNSC 1234.
+fn put_header(frame: &mut [u8], g: Given, fl: usize) {
+    let end = 8 + (g.nst as usize) * 4;
+    put4(frame, 0, g.sync);
+    put4(frame, 4, fc(g, fl));
+    put_table(frame, g);
+    put2(frame, end, 0x1234);
+    let sum = sum_between(frame, 4, end + 2);
+    put2(frame, end + 2, sum ^ (g.header_off as u16));
+}
+
+// What follows the main stream: its sum, Rfu FFFF, Rfa FF, the timestamp.
+fn put_end(frame: &mut [u8], g: Given, start: usize, end: usize) {
+    if end < 65536 {
+        let sum = sum_between(frame, start, end);
+        put2(frame, end, sum ^ (g.main_off as u16));
+        put2(frame, end + 2, 0xffff);
+        put4(frame, end + 4, 0xff000000 + g.time % 16777216);
+    }
+}
+
+pub fn build(frame: &mut [u8], g: Given) {
+    let n = g.nst as usize;
+    let fl = n + 1 + words(g) + (g.longer as usize);
+    let start = 12 + n * 4;
+    let end = 8 + fl * 4;
+    put_header(frame, g, fl);
+    put_main(frame, start, end);
+    put_end(frame, g, start, end);
+}
