@@ -5,16 +5,18 @@ use mathlib.Core.List.{List, [], _∷_, _++_}
 use mathlib.Core.Logic.{⊎-elim}
 use mathlib.Core.Path.{_≡_, refl, sym, ap, subst, _∙_}
 use Prim.Native.Nat.{ℕ, zero, suc, _+_, _-_, _≤_, _<_}
-use native.Mathlib.Nat.{eq-or-lt-of-le, le-of-suc-le-suc}
+use native.Mathlib.Nat.{zero-add, eq-or-lt-of-le, le-of-suc-le-suc}
 use native.Mathlib.Numerals.{add-one}
 use native.Mathlib.Omega.{arith}
 use lib.Dec.{eqb}
 use lib.ListN.{length}
 use lib.Seq.{take-add, drop-drop}
+use denote.Ref.{RefT, now}
 use borrow.Author.Tests.{eq-eqb, ne-eqb, eqb-true, eqb-false}
 use Rattle.frame.specs.declared.Span.{Span}
 use Rattle.frame.specs.Frame.{pick, nstOf, flOf, streamOf, streamsTo, stlTotal, mainStart, mainEnd, ficSpan, streamSpan, spansTo, Tile, cuts, mainOf, carriedBy, between}
 use Rattle.frame.specs.Rules.{refusalOf, Acceptable, streamRefusalOf, granted, ficPart, streamPart}
+use Rattle.frame.specs.Answers.{PartAt}
 use Rattle.frame.proofs.Accepting.{acceptable, request-refused, request-granted}
 use Rattle.frame.proofs.Streams.{total-more}
 
@@ -110,3 +112,9 @@ unfolding streamPart
 stream-part-inside f i =
     granted-inside (streamRefusalOf f i) (length f) (streamSpan f i)
     (λ e. let g = stream-granted f i e in stream-inside f i (g .0) (g .1))
+
+-- a refused request hands back an empty part that begins at the lent frame's start
+pub refused-part : (n : ℕ) (span : Span) (s r : RefT (List ℕ)) → (n ≡ 0 → ⊥) → PartAt s (granted n span) r → (now r ≡ []) × (r .ptr ≡ s .ptr)
+refused-part n span s r h p =
+    let q : PartAt s (record { start = 0; len = 0 }) r = rw (granted-refused n n span refl h) p in
+    (q .bytes, q .place ∙ ap (λ (k : ℕ). (s .ptr .0, k)) (zero-add (s .ptr .1)))

@@ -34,13 +34,19 @@ errOf f = getD (split syncWidths (wordAt f 0)) 0 0
 unfoldable pub fsyncOf : List ℕ → ℕ
 fsyncOf f = getD (split syncWidths (wordAt f 0)) 1 0
 
--- 5.2, table 2: the status bytes of the levels 0 to 3
+-- 5.2, table 2: the status bytes of the levels 0 to 3. The level of a byte is its place here, 4 where it is none of them
 abbrev pub statuses : List ℕ
 statuses = 0xFF ∷ 0xF0 ∷ 0x0F ∷ 0x00 ∷ []
 
--- table 11: FSYNC0 and FSYNC1
+abbrev pub statusBy : ℕ → ℕ
+statusBy level = getD statuses level 0
+
+-- table 11: FSYNC0 and FSYNC1. Which one a sync word is: its place here, 2 where it is neither
 abbrev pub fsyncs : List ℕ
 fsyncs = 0x073AB6 ∷ 0xF8C549 ∷ []
+
+abbrev pub fsyncBy : ℕ → ℕ
+fsyncBy which = getD fsyncs which 0
 
 -- ---- FC, clause 5.3: FCT, FICF, NST, FP, MID, FL
 abbrev pub fcWidths : List ℕ
