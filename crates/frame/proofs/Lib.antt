@@ -1,5 +1,6 @@
 pub mod Accepting
 pub mod Answers
+pub mod Entries
 pub mod Parts
 pub mod Places
 pub mod Rules

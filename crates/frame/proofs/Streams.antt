@@ -32,7 +32,7 @@ pub total-more : (f : List ℕ) (n : ℕ) → stlTotal (streamsTo f (n + 1)) ≡
 unfolding stlTotal
 total-more f n = rw (streams-more f n, total-append) (omega arith)
 
-or-assoc : (a b c : Bool) → ((a || b) || c) ≡ (a || (b || c))
+pub or-assoc : (a b c : Bool) → ((a || b) || c) ≡ (a || (b || c))
 or-assoc true b c = refl
 or-assoc false b c = refl
 
@@ -41,7 +41,7 @@ unfolding someStlAbove
 some-append m [] ts = refl
 some-append m (s ∷ ss) ts = rw (some-append m ss ts, or-assoc)
 
-or-false : (a : Bool) → (a || false) ≡ a
+pub or-false : (a : Bool) → (a || false) ≡ a
 or-false true = refl
 or-false false = refl
 

@@ -2,3 +2,4 @@ pub mod Words
 pub mod Frame
 pub mod Rules
 pub mod Answers
+pub mod Writing

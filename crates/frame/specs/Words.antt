@@ -26,7 +26,10 @@ Fit [] (v ∷ vs) = ⊥
 Fit (k ∷ ks) [] = ⊥
 Fit (k ∷ ks) (v ∷ vs) = (v < 2 ^ k) × Fit ks vs
 
--- a word's four bytes
+-- two bytes, and a word's four
+abbrev pub bytes2 : List ℕ
+bytes2 = 8 ∷ 8 ∷ []
+
 abbrev pub bytes4 : List ℕ
 bytes4 = 8 ∷ 8 ∷ 8 ∷ 8 ∷ []
 

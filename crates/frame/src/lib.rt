@@ -47,3 +47,19 @@ pub struct Span {
     pub start: usize,
     pub len: usize,
 }
+
+// The fields given to writing. Entries beyond the count have no effect. FL is worked out, and so are both sums.
+pub struct Fields {
+    pub level: u8,
+    pub fsync1: bool,
+    pub fct: u8,
+    pub ficf: bool,
+    pub fp: u8,
+    pub mid: u8,
+    pub mnsc: u16,
+    pub rfu: u16,
+    pub rfa: u8,
+    pub timestamp: Timestamp,
+    pub count: usize,
+    pub table: [Stream; 64],
+}

@@ -1,0 +1,9 @@
+pub mod Agree
+pub mod Beyond
+pub mod Laid
+pub mod OneFrame
+pub mod Pieces
+pub mod ReadWritable
+pub mod Words
+pub mod Writable
+pub mod Written

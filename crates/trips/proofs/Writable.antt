@@ -1,0 +1,117 @@
+-- The fields that writing accepts, in plain words: none of its rules holds.
+-- Assumes nothing.
+use mathlib.Core.Bool.{Bool, true, false, not, _||_}
+use mathlib.Core.List.{List, [], _∷_}
+use mathlib.Core.Path.{_≡_, refl}
+use Prim.Native.Nat.{ℕ, _+_, _*_, _^_, _≤_}
+use native.Mathlib.Nat.{suc-inj}
+use native.Mathlib.Omega.{arith}
+use lib.Dec.{eqb, leb}
+use lib.ListN.{length}
+use borrow.Author.Tests.{eq-eqb, le-ltb, lt-leb, eqb-true, ltb-false, leb-false, not-false}
+use Rattle.frame.specs.declared.Fields.{Fields}
+use Rattle.frame.specs.declared.Stream.{Stream}
+use Rattle.frame.specs.Words.{Fit}
+use Rattle.frame.specs.Frame.{sstcWidths, stlTotal}
+use Rattle.frame.specs.Rules.{someStlAbove}
+use Rattle.frame.specs.Writing.{entriesOf, ficlIn, flIn, someWider, timeWider, streamValues, someStreamWider, wider, writingRulesOf, writingRefusalOf}
+use Rattle.frame.proofs.Rules.{NoneHold, none-hold, none-first}
+
+-- the widths of FCT, FP, MID, MNSC, Rfu, Rfa, and these values
+abbrev pub plainWidths : List ℕ
+plainWidths = 8 ∷ 3 ∷ 2 ∷ 16 ∷ 16 ∷ 8 ∷ []
+
+abbrev pub plainIn : Fields → List ℕ
+plainIn x = x .fct ∷ x .fp ∷ x .mid ∷ x .mnsc ∷ x .rfu ∷ x .rfa ∷ []
+
+-- each value of each entry is within its width
+abbrev pub AllFit : List Stream → Type 0
+AllFit [] = Unit {0}
+AllFit (s ∷ ss) = Fit sstcWidths (streamValues s) × AllFit ss
+
+-- none of writing's rules holds; main is the length of the main stream lent
+pub record Writable (x : Fields) (main : ℕ) : Type 0 where
+  pub level : x .level ≤ 3
+  pub plain : Fit plainWidths (plainIn x)
+  pub time : timeWider (x .timestamp) ≡ false
+  pub entries : AllFit (entriesOf x)
+  pub streams : x .count ≤ 64
+  pub counted : x .fct ≤ 249
+  pub lengths : someStlAbove 684 (entriesOf x) ≡ false
+  pub room : flIn x ≤ 1532
+  pub whole : main ≡ 4 * ficlIn x + 8 * stlTotal (entriesOf x)
+
+neither : (a b : Bool) → (a || b) ≡ false → (a ≡ false) × (b ≡ false)
+neither true b e = let z : _≡_ {A = ℕ} 0 1 = cc in absurd (omega arith)
+neither false b e = (refl, e)
+
+-- no value is wider, and each is within its width
+fit : (ks vs : List ℕ) → length ks ≡ length vs → someWider ks vs ≡ false → Fit ks vs
+fit [] [] l e = tt
+fit [] (v ∷ vs) l e = omega arith
+fit (k ∷ ks) [] l e = omega arith
+fit (k ∷ ks) (v ∷ vs) l e =
+    let p = neither (leb (2 ^ k) v) (someWider ks vs) e in
+    (leb-false (2 ^ k) v (p .0), fit ks vs (suc-inj l) (p .1))
+
+unwider : (ks vs : List ℕ) → Fit ks vs → someWider ks vs ≡ false
+unwider [] [] h = refl
+unwider (k ∷ ks) (v ∷ vs) h = rw (lt-leb (2 ^ k) v (h .0)) (unwider ks vs (h .1))
+
+all-fit : (ss : List Stream) → someStreamWider ss ≡ false → AllFit ss
+unfolding someStreamWider
+all-fit [] e = tt
+all-fit (s ∷ ss) e =
+    let p = neither (someWider sstcWidths (streamValues s)) (someStreamWider ss) e in
+    (fit sstcWidths (streamValues s) refl (p .0), all-fit ss (p .1))
+
+all-unwider : (ss : List Stream) → AllFit ss → someStreamWider ss ≡ false
+unfolding someStreamWider
+all-unwider [] h = refl
+all-unwider (s ∷ ss) h = rw (unwider sstcWidths (streamValues s) (h .0)) (all-unwider ss (h .1))
+
+nothing : (x : Fields) (main out : ℕ) → writingRefusalOf x main out ≡ 0 → NoneHold (writingRulesOf x main out)
+unfolding writingRefusalOf
+nothing x main out e = none-hold (writingRulesOf x main out) (tt, (tt, (tt, (tt, (tt, (tt, (tt, tt))))))) e
+
+pub writable : (x : Fields) (main out : ℕ) → writingRefusalOf x main out ≡ 0 → Writable x main
+unfolding wider
+writable x main out e =
+    let p = nothing x main out e in
+    let q = neither _ _ (p .1 .0) in
+    let r = neither _ _ (q .0) in
+    let s = neither _ _ (q .1) in
+    record {
+      level = ltb-false _ _ (r .0);
+      plain = fit plainWidths (plainIn x) refl (r .1);
+      time = s .0;
+      entries = all-fit (entriesOf x) (s .1);
+      streams = ltb-false _ _ (p .1 .1 .0);
+      counted = ltb-false _ _ (p .1 .1 .1 .0);
+      lengths = p .1 .1 .1 .1 .0;
+      room = ltb-false _ _ (p .1 .1 .1 .1 .1 .0);
+      whole = eqb-true _ _ (not-false _ (p .1 .1 .1 .1 .1 .1 .0));
+    }
+
+pub written-whole : (x : Fields) (main out : ℕ) → writingRefusalOf x main out ≡ 0 → out ≡ 6144
+written-whole x main out e = eqb-true _ _ (not-false _ (nothing x main out e .0))
+
+unequal : {a b : ℕ} → a ≡ b → not (eqb a b) ≡ false
+unequal {a} {b} e = rw (eq-eqb a b e)
+
+none-wider : (x : Fields) (main : ℕ) → Writable x main → wider x ≡ false
+unfolding wider
+none-wider x main w =
+    rw (le-ltb _ _ (w .level), unwider plainWidths (plainIn x) (w .plain), w .time)
+    (all-unwider (entriesOf x) (w .entries))
+
+pub unrefused : (x : Fields) (main : ℕ) → Writable x main → writingRefusalOf x main 6144 ≡ 0
+unfolding writingRefusalOf
+unrefused x main w =
+    none-first (writingRulesOf x main 6144) (
+      refl,
+      (
+        none-wider x main w,
+        (le-ltb _ _ (w .streams), (le-ltb _ _ (w .counted), (w .lengths, (le-ltb _ _ (w .room), (unequal (w .whole), tt))))),
+      ),
+    )

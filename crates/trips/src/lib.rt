@@ -1,0 +1,1 @@
+// The round trips: theorems about the definitions of `frame`, in proofs/.

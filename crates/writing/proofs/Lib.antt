@@ -1,0 +1,4 @@
+pub mod Frames
+pub mod Puts
+pub mod Refusing
+pub mod Writing

@@ -1,0 +1,20 @@
+use Rattle.frame.specs.Writing.{flIn}
+use borrow.Author.Needs.{needs}
+use Rattle.writing.proofs.fl.Statement.{statement}
+use Rattle.writing.proofs.fl.Tie as tie
+
+returns : tie.Need-returns
+unfolding flIn
+returns c = cc
+
+pub fl-spec : {M : Type 1} → statement M
+fl-spec =
+    tie.close
+    (tie.spec
+    (λ c. search needs)
+    (λ c κs. search needs)
+    (λ c. search needs)
+    (λ c κs. search needs)
+    (λ c. search needs)
+    (λ c. search needs)
+    returns)
