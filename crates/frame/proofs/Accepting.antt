@@ -10,7 +10,7 @@ use Rattle.frame.specs.Frame.{nstOf}
 use Rattle.frame.specs.Rules.{_when_, first, rulesOf, refusalOf, Acceptable, streamRefusalOf}
 use Rattle.frame.proofs.Rules.{NoneHold, none-hold, none-first, first-zero, first-found}
 
-nothing : (f : List ℕ) → refusalOf f ≡ 0 → NoneHold (rulesOf f)
+pub nothing : (f : List ℕ) → refusalOf f ≡ 0 → NoneHold (rulesOf f)
 unfolding refusalOf
 nothing f e = none-hold (rulesOf f) (tt, (tt, (tt, (tt, (tt, (tt, (tt, (tt, (tt, (tt, tt)))))))))) e
 

@@ -14,8 +14,8 @@ use lib.Seq.{take-add, drop-drop}
 use denote.Ref.{RefT, now}
 use borrow.Author.Tests.{eq-eqb, ne-eqb, eqb-true, eqb-false}
 use Rattle.frame.specs.declared.Span.{Span}
-use Rattle.frame.specs.Frame.{pick, nstOf, flOf, streamOf, streamsTo, stlTotal, mainStart, mainEnd, ficSpan, streamSpan, spansTo, Tile, cuts, mainOf, carriedBy, between}
-use Rattle.frame.specs.Rules.{refusalOf, Acceptable, streamRefusalOf, granted, ficPart, streamPart}
+use Rattle.frame.specs.Frame.{pick, nstOf, flOf, streamOf, streamsTo, stlTotal, mainStart, mainEnd, mainSpan, ficSpan, streamSpan, spansTo, Tile, cuts, mainOf, carriedBy, between}
+use Rattle.frame.specs.Rules.{refusalOf, Acceptable, streamRefusalOf, granted, mainPart, ficPart, streamPart}
 use Rattle.frame.specs.Answers.{PartAt}
 use Rattle.frame.proofs.Accepting.{acceptable, request-refused, request-granted}
 use Rattle.frame.proofs.Streams.{total-more}
@@ -95,6 +95,15 @@ granted-inside n l s h = go (eqb n 0) refl
     go : (b : Bool) → eqb n 0 ≡ b → pick b s (record { start = 0; len = 0 }) .start + pick b s (record { start = 0; len = 0 }) .len ≤ l
     go true e = h (eqb-true n 0 e)
     go false e = omega arith
+
+pub main-after : (f : List ℕ) → Acceptable f → mainStart (nstOf f) ≤ mainEnd (flOf f)
+main-after f a = omega (arith, a .formula)
+
+pub main-part-inside : (f : List ℕ) → mainPart f .start + mainPart f .len ≤ length f
+unfolding mainPart
+main-part-inside f =
+    granted-inside (refusalOf f) (length f) (mainSpan f)
+    (λ e. let a = acceptable f e in omega (arith, a .whole, a .room, main-after f a))
 
 pub fic-part-inside : (f : List ℕ) → ficPart f .start + ficPart f .len ≤ length f
 unfolding ficPart

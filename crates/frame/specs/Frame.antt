@@ -138,6 +138,9 @@ mainEnd fl = 4 + (fl + 1) * 4
 abbrev pub mainOf : List ℕ → List ℕ
 mainOf f = between f (mainStart (nstOf f)) (mainEnd (flOf f))
 
+abbrev pub mainSpan : List ℕ → Span
+mainSpan f = record { start = mainStart (nstOf f); len = mainEnd (flOf f) - mainStart (nstOf f) }
+
 -- first the FIC, then each stream in table order
 abbrev pub ficSpan : List ℕ → Span
 ficSpan f = record { start = mainStart (nstOf f); len = 4 * ficlOf f }

@@ -10,7 +10,7 @@ use Rattle.sum.specs.Sum.{sumOf}
 use Rattle.frame.specs.declared.Span.{Span}
 use Rattle.frame.specs.declared.Stream.{Stream}
 use Rattle.frame.specs.Words.{wordAt}
-use Rattle.frame.specs.Frame.{pick, placeIn, statuses, errOf, fsyncs, fsyncOf, fctOf, nstOf, flOf, ficlOf, streamsOf, stlTotal, flBy, headerBytesOf, headerSumOf, ficSpan, streamSpan}
+use Rattle.frame.specs.Frame.{pick, placeIn, statuses, errOf, fsyncs, fsyncOf, fctOf, nstOf, flOf, ficlOf, streamsOf, stlTotal, flBy, headerBytesOf, headerSumOf, mainSpan, ficSpan, streamSpan}
 
 -- a rule: the refusal's number, and whether its condition holds
 infix 20 _when_
@@ -64,6 +64,9 @@ streamRefusalOf f i = first (rulesOf f ++ ((13 when leb (nstOf f) i) ∷ []))
 -- what a request hands back: the part, or, refused, an empty part at the frame's start
 abbrev pub granted : ℕ → Span → Span
 granted refusal span = pick (eqb refusal 0) span (record { start = 0; len = 0 })
+
+unfoldable pub mainPart : List ℕ → Span
+mainPart f = granted (refusalOf f) (mainSpan f)
 
 unfoldable pub ficPart : List ℕ → Span
 ficPart f = granted (refusalOf f) (ficSpan f)

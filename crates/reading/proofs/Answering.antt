@@ -19,7 +19,7 @@ use Rattle.frame.proofs.Accepting.{acceptable}
 use Rattle.frame.proofs.Words.{split-fit}
 use Rattle.reading.specs.Steps.{timestampFor, headerFor}
 
-digit-of : (n : ℕ) → n < 2 → digit (eqb n 1) ≡ n
+pub digit-of : (n : ℕ) → n < 2 → digit (eqb n 1) ≡ n
 digit-of zero h = refl
 digit-of (suc zero) h = refl
 digit-of (suc (suc n)) h = absurd (omega arith)
@@ -32,11 +32,11 @@ timestamp-values n = go (eqb n 0xFFFFFF) refl
     go true e = ap (λ (k : ℕ). 0 ∷ k ∷ []) (sym (eqb-true n 0xFFFFFF e))
     go false e = refl
 
-ficf-lt : (f : List ℕ) → ficfOf f < 2
+pub ficf-lt : (f : List ℕ) → ficfOf f < 2
 unfolding ficfOf
 ficf-lt f = split-fit fcWidths (wordAt f 4) .1 .0
 
-header-values : (f : List ℕ) → Acceptable f → headerValues (headerFor f) ≡ fieldsOf f
+pub header-values : (f : List ℕ) → Acceptable f → headerValues (headerFor f) ≡ fieldsOf f
 unfolding headerFor fieldsOf
 header-values f a =
     let h : placeIn fsyncs (fsyncOf f) < 2 = omega (arith, a .synced) in

@@ -6,8 +6,8 @@ ghost use Prim.Native.Nat.{_+_, _*_, _/_, _%_, _<_, _≤_};
 ghost use lib.ListN.{length, getD};
 ghost use Rattle.sum.specs.Sum.{sumOf};
 ghost use Rattle.frame.specs.Words.{wordAt};
-ghost use Rattle.frame.specs.Frame.{placeIn, statuses, fsyncs, errOf, fsyncOf, fctOf, ficfOf, nstOf, fpOf, midOf, flOf, mnscOf, headerSumOf, mainSumOf, rfuOf, rfaOf, timeOf, ficlBy, ficlOf, streamOf, streamsTo, stlTotal, levelBy, levelOf, between, ficSpan, streamSpan};
-ghost use Rattle.frame.specs.Rules.{first, someStlAbove, refusalOf, streamRefusalOf, ficPart, streamPart, Acceptable};
+ghost use Rattle.frame.specs.Frame.{placeIn, statuses, fsyncs, errOf, fsyncOf, fctOf, ficfOf, nstOf, fpOf, midOf, flOf, mnscOf, headerSumOf, mainSumOf, rfuOf, rfaOf, timeOf, ficlBy, ficlOf, streamOf, streamsTo, stlTotal, levelBy, levelOf, between, mainSpan, ficSpan, streamSpan};
+ghost use Rattle.frame.specs.Rules.{first, someStlAbove, refusalOf, streamRefusalOf, mainPart, ficPart, streamPart, Acceptable};
 ghost use Rattle.frame.specs.Answers.{tableBy, Reads, PartAt};
 ghost use Rattle.reading.specs.Steps.{headRules, bodyRules, headRulesOf, bodyRulesOf, headerFor, timestampFor, Counted, Has};
 use frame::Answer;
@@ -438,6 +438,27 @@ pub fn stream_refusal(frame: &[u8], i: usize) -> u8
     if nst(frame) <= i { 13 } else { 0 }
 }
 
+fn main_span(frame: &[u8]) -> Span
+    requires { ⌜ Acceptable (now frame) ⌝ }
+    ensures { λ r. ⌜ r ≡ mainSpan (now (frame .entry)) ⌝ }
+{
+    let start = 4 + (nst(frame) + 2) * 4;
+    let end = 4 + (fl(frame) + 1) * 4;
+    Span {
+        start,
+        len: end - start,
+    }
+}
+
+fn main_place(frame: &[u8]) -> Span
+    ensures { λ r. ⌜ r ≡ mainPart (now (frame .entry)) ⌝ }
+{
+    if judge(frame) != 0 {
+        return Span { start: 0, len: 0 };
+    }
+    main_span(frame)
+}
+
 fn fic_span(frame: &[u8]) -> Span
     requires { ⌜ Acceptable (now frame) ⌝ }
     ensures { λ r. ⌜ r ≡ ficSpan (now (frame .entry)) ⌝ }
@@ -485,6 +506,13 @@ fn part(frame: &[u8], place: Span) -> &[u8]
     let start = place.start;
     let end = start + place.len;
     &frame[start..end]
+}
+
+// The bytes of the whole main stream, as a part of the frame lent.
+pub fn main_stream(frame: &[u8]) -> &[u8]
+    ensures { λ r. ⌜ PartAt (frame .entry) (mainPart (now (frame .entry))) r ⌝ }
+{
+    part(frame, main_place(frame))
 }
 
 // The bytes of the FIC, as a part of the frame lent.

@@ -102,7 +102,7 @@ fn fic_words(ficf: u8, mid: u8) -> usize
 }
 
 // The bytes from start up to end, with no order in their bits.
-fn put_main(frame: &mut [u8], start: usize, end: usize) {
+pub fn put_main(frame: &mut [u8], start: usize, end: usize) {
     let mut i = start;
     while i < end {
         put1(frame, i, (i % 251) as u8);
@@ -111,7 +111,7 @@ fn put_main(frame: &mut [u8], start: usize, end: usize) {
 }
 
 // The sum of the bytes from start up to end, as many as there are.
-fn sum_between(frame: &[u8], start: usize, end: usize) -> u16 {
+pub fn sum_between(frame: &[u8], start: usize, end: usize) -> u16 {
     if start <= end {
         if end <= frame.len() {
             return sum::sum(&frame[start..end]);

@@ -4,8 +4,10 @@ mod expected;
 mod frames;
 mod line;
 mod sums;
+mod writes;
 
 fn main() {
     sums::rows();
     frames::rows();
+    writes::rows();
 }

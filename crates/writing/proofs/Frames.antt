@@ -34,16 +34,30 @@ end-length : (x : Fields) (m : List ℕ) → length (endIn x m) ≡ 8
 unfolding endIn
 end-length x m = refl
 
-pub end-in : (x : Fields) (m d e : List ℕ) (at t : ℕ) → t ≡ sumOf m
-    → e ≡ put d at (split bytes2 t ++ split bytes2 (x .rfu) ++ split bytes4 (join tistWidths (x .rfa ∷ timeBy (x .timestamp) ∷ [])))
-    → e ≡ put d at (endIn x m)
+-- what follows a main stream with this sum
+abbrev pub endBy : Fields → ℕ → List ℕ
+endBy x sum = split bytes2 sum ++ split bytes2 (x .rfu) ++ split bytes4 (join tistWidths (x .rfa ∷ timeBy (x .timestamp) ∷ []))
+
+end-in : (x : Fields) (m d e : List ℕ) (at t : ℕ) → t ≡ sumOf m → e ≡ put d at (endBy x t) → e ≡ put d at (endIn x m)
 unfolding endIn
 end-in x m d e at t h p = rw (← h) p
 
 -- the carried bytes, by the parts
-pub carried : (x : Fields) (m o : ℕ) → Ready x m o → carriedBy (flIn x) ≡ 10 + 4 * x .count + 2 + m + 8
+carried : (x : Fields) (m o : ℕ) → Ready x m o → carriedBy (flIn x) ≡ 10 + 4 * x .count + 2 + m + 8
 unfolding flIn
 carried x m o y = omega (arith, y .main)
+
+-- so all of it fits the output
+pub fits : (x : Fields) (m o : ℕ) → Ready x m o → 10 + 4 * x .count + 2 + m + 8 ≤ o
+fits x m o y = omega (arith, carried x m o y, y .room, y .out)
+
+-- what was put last is what stands there: both sums are taken over the output
+part-put : (l S H : List ℕ) → between (put l 0 (S ++ H)) (length S) (length S + length H) ≡ H
+unfolding put
+part-put l S H =
+    let rest = drop (0 + length (S ++ H)) l in
+    let z : length S + length H - length S ≡ length H = omega arith in
+    rw (append-assoc S H rest, drop-at S (H ++ rest) (length S) refl, z) (take-at H rest (length H) refl)
 
 module _ (x : Fields) (l : List ℕ) where
   -- the main stream's sum, Rfu, Rfa and timestamp
@@ -52,19 +66,11 @@ module _ (x : Fields) (l : List ℕ) where
       → b ≡ put a (at + 2) (split bytes2 (x .rfu))
       → d ≡ put b (at + 4) (split bytes4 w)
       → w ≡ join tistWidths (x .rfa ∷ timeBy (x .timestamp) ∷ [])
-      → d ≡ put l at (split bytes2 s ++ split bytes2 (x .rfu) ++ split bytes4 (join tistWidths (x .rfa ∷ timeBy (x .timestamp) ∷ [])))
+      → d ≡ put l at (endBy x s)
   end-puts at h a b d s w pa pb pd ew =
       let T = split bytes4 (join tistWidths (x .rfa ∷ timeBy (x .timestamp) ∷ [])) in
       let p2 = put-chain l a b at (at + 2) (split bytes2 s) (split bytes2 (x .rfu)) pa pb refl (omega arith) in
       put-chain l b d at (at + 4) (split bytes2 s ++ split bytes2 (x .rfu)) T p2 (word-put b d (at + 4) w _ pd ew) refl (omega arith)
-
-  -- what the header sum is taken over
-  header-put : (S H : List ℕ) → between (put l 0 (S ++ H)) (length S) (length S + length H) ≡ H
-  unfolding put
-  header-put S H =
-      let rest = drop (0 + length (S ++ H)) l in
-      let z : length S + length H - length S ≡ length H = omega arith in
-      rw (append-assoc S H rest, drop-at S (H ++ rest) (length S) refl, z) (take-at H rest (length H) refl)
 
 module _ (x : Fields) (l : List ℕ) (room : length l ≡ 6144) where
   -- SYNC, FC, the entries, MNSC
@@ -91,16 +97,17 @@ module _ (x : Fields) (l : List ℕ) (room : length l ≡ 6144) where
       let p4 = put-chain l d e 0 (8 + 4 * x .count) ((S ++ F) ++ B) (split bytes2 (x .mnsc)) p3 pe q r in
       p4 ∙ ap (put l 0) (simp append-assoc)
 
-  pub frame-puts : (m a b d e g : List ℕ) (s : ℕ) → Ready x (length m) (length l) → length (headerIn x) ≡ 6 + 4 * x .count
+  pub frame-puts : (m a b d e g : List ℕ) (s t : ℕ) → Ready x (length m) (length l) → length (headerIn x) ≡ 6 + 4 * x .count
       → a ≡ put l 0 (syncIn x ++ headerIn x)
       → s ≡ sumOf (between a 4 (10 + 4 * x .count))
       → b ≡ put a (10 + 4 * x .count) (split bytes2 s)
       → d ≡ put b (10 + 4 * x .count + 2) m
-      → e ≡ put d (10 + 4 * x .count + 2 + length m) (endIn x m)
+      → t ≡ sumOf (between d (10 + 4 * x .count + 2) (10 + 4 * x .count + 2 + length m))
+      → e ≡ put d (10 + 4 * x .count + 2 + length m) (endBy x t)
       → g ≡ put e (10 + 4 * x .count + 2 + length m + 8) (replicate (length e - (10 + 4 * x .count + 2 + length m + 8)) 0x55)
       → g ≡ frameIn x m
   unfolding frameIn
-  frame-puts m a b d e g s y n pa es pb pd pe pg =
+  frame-puts m a b d e g s t y n pa es pb pd et pt pg =
       let S = syncIn x in
       let H = headerIn x in
       let U = split bytes2 (sumOf H) in
@@ -111,13 +118,16 @@ module _ (x : Fields) (l : List ℕ) (room : length l ≡ 6144) where
       let c = carried x (length m) (length l) y in
       let f = y .room in
       let q : 4 + (6 + 4 * k) ≡ 10 + 4 * k = omega arith in
-      let h : s ≡ sumOf H = es ∙ ap sumOf (ap (λ (r : List ℕ). between r 4 (10 + 4 * k)) pa ∙ (rw (i, n, q) at (header-put x l S H))) in
+      let h : s ≡ sumOf H = es ∙ ap sumOf (ap (λ (r : List ℕ). between r 4 (10 + 4 * k)) pa ∙ (rw (i, n, q) at (part-put l S H))) in
       let l1 : length (S ++ H) ≡ 10 + 4 * k = simp length-append (omega arith) in
       let l2 : length ((S ++ H) ++ U) ≡ 10 + 4 * k + 2 = simp length-append (omega arith) in
       let l3 : length (((S ++ H) ++ U) ++ m) ≡ 10 + 4 * k + 2 + length m = simp length-append (omega arith) in
       let l4 : length ((((S ++ H) ++ U) ++ m) ++ E) ≡ 10 + 4 * k + 2 + length m + 8 = simp length-append (omega arith) in
       let p2 = put-chain l a b 0 (10 + 4 * k) (S ++ H) U pa (pb ∙ ap (λ (w : ℕ). put a (10 + 4 * k) (split bytes2 w)) h) (omega arith) (omega arith) in
       let p3 = put-chain l b d 0 (10 + 4 * k + 2) ((S ++ H) ++ U) m p2 pd (omega arith) (omega arith) in
+      let u : t ≡ sumOf m =
+      et ∙ ap sumOf (ap (λ (r : List ℕ). between r (10 + 4 * k + 2) (10 + 4 * k + 2 + length m)) p3 ∙ (rw l2 at (part-put l ((S ++ H) ++ U) m))) in
+      let pe = end-in x m d e (10 + 4 * k + 2 + length m) t u pt in
       let p4 = put-chain l d e 0 (10 + 4 * k + 2 + length m) (((S ++ H) ++ U) ++ m) E p3 pe (omega arith) (omega arith) in
       let o : length e ≡ length l = ap length p4 ∙ put-length l 0 ((((S ++ H) ++ U) ++ m) ++ E) (omega arith) in
       let z : length e - (10 + 4 * k + 2 + length m + 8) ≡ 6144 - carriedBy (flIn x) = omega arith in

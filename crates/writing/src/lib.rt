@@ -363,7 +363,8 @@ fn fill(x: Fields, main: &[u8], out: &mut [u8])
     put2(out, end, sum);
     put_main(out, end + 2, main);
     let next = end + 2 + main.len();
-    put_end(out, next, x, sum::sum(main));
+    let main_sum = sum_between(out, end + 2, next);
+    put_end(out, next, x, main_sum);
     pad(out, next + 8);
 }
 

@@ -4,9 +4,6 @@ use borrow.Author.Needs.{needs}
 use lib.ListN.{length}
 use Rattle.rows.proofs.build.put_main.Statement.{statement}
 use Rattle.rows.proofs.build.put_main.Tie as tie
-use Rattle.rows.proofs.build.put_main.Reads as reads
-use Rattle.rows.proofs.build.put_main.Lts as lts
-use Rattle.rows.proofs.build.put1.Reads as put1-reads
 
 abbrev Inv-loop : tie.InvT-loop
 Inv-loop frame₀ start end i₀ frame i = length frame₀ ≡ length frame

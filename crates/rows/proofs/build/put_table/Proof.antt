@@ -4,10 +4,6 @@ use borrow.Author.Needs.{needs}
 use lib.ListN.{length}
 use Rattle.rows.proofs.build.put_table.Statement.{statement}
 use Rattle.rows.proofs.build.put_table.Tie as tie
-use Rattle.rows.proofs.build.put_table.Reads as reads
-use Rattle.rows.proofs.build.put_table.Lts as lts
-use Rattle.rows.proofs.build.put4.Reads as put4-reads
-use Rattle.rows.proofs.build.stl.Reads as stl-reads
 
 abbrev Inv-loop : tie.InvT-loop
 Inv-loop frame₀ g n i₀ frame i = length frame₀ ≡ length frame

@@ -2,10 +2,6 @@ use Prim.Native.Nat.{_+_, _-_, _*_, _≤_}
 use borrow.Author.Needs.{needs}
 use Rattle.rows.proofs.build.words.Statement.{statement}
 use Rattle.rows.proofs.build.words.Tie as tie
-use Rattle.rows.proofs.build.words.Reads as reads
-use Rattle.rows.proofs.build.words.Lts as lts
-use Rattle.rows.proofs.build.fic_words.Reads as fic-words-reads
-use Rattle.rows.proofs.build.stl.Reads as stl-reads
 
 abbrev Inv-loop : tie.InvT-loop
 Inv-loop g n words₀ i₀ words i = (i ≤ n) × (words ≤ 32 + 131070 * i)

@@ -2,12 +2,6 @@ use borrow.Author.Needs.{needs}
 use lib.ListN.{length-take}
 use Rattle.rows.proofs.frames.lent.Statement.{statement}
 use Rattle.rows.proofs.frames.lent.Tie as tie
-use Rattle.rows.proofs.frames.lent.Reads as reads
-use Rattle.rows.proofs.frames.lent.Lts as lts
-use Rattle.reading.proofs.judge.Reads as judge-reads
-use Rattle.rows.proofs.line.number.Reads as number-reads
-use Rattle.rows.proofs.line.plain.Reads as plain-reads
-use Rattle.rows.proofs.line.text.Reads as text-reads
 
 -- src/frames.rt:142:37
 slice-aggregate-judge : tie.Need-slice-aggregate-judge

@@ -1,0 +1,140 @@
+-- What reading handed out, written again: the fields are the frame's, so writing refuses none of them, and a clean frame comes out as it went in.
+-- Assumes nothing.
+use mathlib.Core.Bool.{Bool, true, false, not}
+use mathlib.Core.List.{List, [], _∷_}
+use mathlib.Core.Path.{_≡_, refl, sym, ap, subst, _∙_}
+use Prim.Native.Nat.{ℕ, _-_}
+use native.Mathlib.Omega.{arith}
+use borrow.Author.Tests.{eq-eqb, ne-eqb, eqb-true}
+use denote.Ref.{RefT, now}
+use lib.Dec.{eqb}
+use lib.ListN.{length, replicate}
+use lib.Seq.{take-at}
+use Rattle.frame.specs.declared.Answer.the-variants.{Accepted, Refused}
+use Rattle.frame.specs.declared.Fields.{Fields}
+use Rattle.frame.specs.declared.Header.{Header}
+use Rattle.frame.specs.declared.Reading.{Reading}
+use Rattle.frame.specs.declared.Span.{Span}
+use Rattle.frame.specs.declared.Stream.{Stream}
+use Rattle.frame.specs.Frame.{nstOf, midOf, flOf, ficfOf, ficlBy, ficlOf, stlTotal, flBy, streamsOf, mainSpan, mainOf}
+use Rattle.frame.specs.Rules.{_when_, first, rulesOf, refusalOf, Acceptable, mainPart}
+use Rattle.frame.specs.Answers.{digit, timestampValues, noStream, numberOf, valuesOf, headerValues, fieldsOf, tableBy, Reads, PartAt}
+use Rattle.frame.specs.Writing.{entriesOf, flIn, valuesIn, writingRefusalOf, frameIn, writtenOf, Writes, Bytes, Clean}
+use Rattle.frame.proofs.Accepting.{acceptable, nothing}
+use Rattle.frame.proofs.Answers.{answer-fixed}
+use Rattle.frame.proofs.Parts.{granted-given}
+use Rattle.frame.proofs.Rules.{first-zero, first-found}
+use Rattle.frame.proofs.Streams.{streams-length}
+use Rattle.reading.specs.Steps.{headerFor}
+use Rattle.reading.proofs.Answering.{header-values, digit-of, ficf-lt}
+use Rattle.trips.proofs.OneFrame.{one-frame}
+use Rattle.trips.proofs.ReadWritable.{read-unrefused}
+use Rattle.relay.specs.Relaying.{fieldsWith, fieldsFor, relayRefusalOf, Relays}
+
+module _ (f : List ℕ) (r : Reading) (reads : Reads f r) where
+  -- an answer that is accepted: the frame is, and the header is its header
+  pub got-number : (h : Header) → r .answer ≡ Accepted h → refusalOf f ≡ 0
+  got-number h e = sym (reads .number) ∙ ap numberOf e
+
+  pub got-fields : (h : Header) → r .answer ≡ Accepted h → fieldsWith h (r .table) ≡ fieldsFor f
+  unfolding fieldsFor
+  got-fields h e =
+      let z = got-number h e in
+      let y = eq-eqb (refusalOf f) 0 z in
+      let v : headerValues h ≡ headerValues (headerFor f) =
+      sym (ap valuesOf e) ∙ reads .values ∙ (rw y (sym (header-values f (acceptable f z)))) in
+      let a = answer-fixed (Accepted h) (Accepted (headerFor f)) refl v in
+      let p : h ≡ headerFor f = cc in
+      let q : r .table ≡ tableBy (streamsOf f) = reads .table ∙ (rw y) in
+      cc
+
+  -- an answer that is a refusal: its number is the frame's, and not 0
+  pub got-refused : (n : ℕ) → r .answer ≡ Refused n → n ≡ refusalOf f
+  got-refused n e = sym (ap numberOf e) ∙ reads .number
+
+  pub got-nonzero : (n : ℕ) → r .answer ≡ Refused n → n ≡ 0 → ⊥
+  unfolding fieldsOf
+  got-nonzero n e z =
+      let y = eq-eqb (refusalOf f) 0 (sym (got-refused n e) ∙ z) in
+      let v : [] ≡ fieldsOf f = sym (ap valuesOf e) ∙ reads .values ∙ (rw y) in
+      let c : _≡_ {A = ℕ} 0 1 = cc in
+      omega arith
+
+module _ (f : List ℕ) (z : refusalOf f ≡ 0) where
+  a : Acceptable f
+  a = acceptable f z
+
+  pub entries-for : entriesOf (fieldsFor f) ≡ streamsOf f
+  unfolding fieldsFor headerFor tableBy
+  entries-for = take-at (streamsOf f) (replicate (64 - length (streamsOf f)) noStream) (nstOf f) (streams-length f (nstOf f))
+
+  fl-for : flIn (fieldsFor f) ≡ flOf f
+  unfolding flIn fieldsFor headerFor
+  fl-for =
+      ap (λ (n : ℕ). flBy (nstOf f) (ficlBy n (midOf f)) (stlTotal (entriesOf (fieldsFor f)))) (digit-of (ficfOf f) (ficf-lt f))
+      ∙ ap (λ (ss : List Stream). flBy (nstOf f) (ficlOf f) (stlTotal ss)) entries-for
+      ∙ sym (a .formula)
+
+  values-for : valuesIn (fieldsFor f) ≡ fieldsOf f
+  unfolding valuesIn fieldsFor headerFor
+  values-for =
+      let h = headerFor f in
+      ap
+      (λ (n : ℕ). h .level ∷ digit (h .fsync1) ∷ h .fct ∷ digit (h .ficf) ∷ h .nst ∷ h .fp ∷ h .mid ∷ n ∷ h .mnsc ∷ h .rfu ∷ h .rfa ∷ timestampValues (h .timestamp))
+      fl-for
+      ∙ header-values f a
+
+  relayed : (o : ℕ) → relayRefusalOf f o ≡ first ((1 when not (eqb o 6144)) ∷ [])
+  unfolding relayRefusalOf
+  relayed o = first-zero (rulesOf f) ((1 when not (eqb o 6144)) ∷ []) (nothing f z)
+
+  -- writing refuses none of the fields: what is left to refuse is the output's length
+  pub number-for : (o : ℕ) → writingRefusalOf (fieldsFor f) (length (mainOf f)) o ≡ relayRefusalOf f o
+  unfolding writingRefusalOf
+  number-for o = go (eqb o 6144) refl
+    where
+      go : (b : Bool) → eqb o 6144 ≡ b → writingRefusalOf (fieldsFor f) (length (mainOf f)) o ≡ relayRefusalOf f o
+      go true e =
+          let r : first ((1 when not (eqb o 6144)) ∷ []) ≡ 0 = rw e in
+          ap (writingRefusalOf (fieldsFor f) (length (mainOf f))) (eqb-true o 6144 e)
+          ∙ read-unrefused f z (fieldsFor f) (sym values-for) (sym entries-for)
+          ∙ sym (relayed o ∙ r)
+      go false e =
+          let r : first ((1 when not (eqb o 6144)) ∷ []) ≡ 1 = rw e in
+          let w : writingRefusalOf (fieldsFor f) (length (mainOf f)) o ≡ 1 = rw e in
+          w ∙ sym (relayed o ∙ r)
+
+  -- a clean frame comes out as it went in
+  pub same-for : Bytes f → Clean f → frameIn (fieldsFor f) (mainOf f) ≡ f
+  same-for b c = one-frame f z b c (fieldsFor f) (mainOf f) (sym values-for) (sym entries-for) refl
+
+-- the part that is handed on is the main stream
+pub main-for : (s r : RefT (List ℕ)) → refusalOf (now s) ≡ 0 → PartAt s (mainPart (now s)) r → now r ≡ mainOf (now s)
+unfolding mainPart
+main-for s r z p =
+    let f = now s in
+    let q = subst (λ (k : Span). PartAt s k r) (sym (granted-given (refusalOf f) (refusalOf f) (mainSpan f) refl z)) p in
+    q .bytes
+
+-- what writing answers of the fields that reading handed out is what relaying answers
+pub relays : (f : List ℕ) → refusalOf f ≡ 0 → Bytes f → (x : Fields) (m before after : List ℕ) (r : ℕ) → x ≡ fieldsFor f → m ≡ mainOf f → Writes x m before after r → Relays f before after r
+unfolding writtenOf
+relays f z b x m before after r p q v =
+    let w =
+    subst (λ (k : List ℕ). Writes (fieldsFor f) k before after r) q (subst (λ (y : Fields). Writes y m before after r) p v) in
+    let n = number-for f z (length before) in
+    let y : (r ≡ 0) → writtenOf (fieldsFor f) (mainOf f) before ≡ frameIn (fieldsFor f) (mainOf f) =
+    λ e. rw (eq-eqb (writingRefusalOf (fieldsFor f) (length (mainOf f)) (length before)) 0 (sym (w .number) ∙ e)) in
+    record { number = w .number ∙ n; output = w .output ∙ (rw n); same = λ e c. w .output ∙ y e ∙ same-for f z b c }
+
+-- refused by reading, nothing is written
+pub relay-refused : (f : List ℕ) (before : List ℕ) (n : ℕ) → n ≡ refusalOf f → (n ≡ 0 → ⊥) → Relays f before before n
+unfolding refusalOf relayRefusalOf
+relay-refused f before n e h =
+    let p : n ≡ relayRefusalOf f (length before) =
+    e ∙ sym (first-found (rulesOf f) ((1 when not (eqb (length before) 6144)) ∷ []) (λ z. h (e ∙ z))) in
+    record {
+      number = p;
+      output = rw (ne-eqb (relayRefusalOf f (length before)) 0 (λ z. h (p ∙ z)));
+      same = λ z c. absurd (h z);
+    }

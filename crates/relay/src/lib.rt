@@ -1,0 +1,47 @@
+// A frame lent is read and written again into an output lent, with the level that reading handed on.
+ghost use mathlib.Core.Path.{_≡_};
+ghost use Rattle.frame.specs.Rules.{refusalOf};
+ghost use Rattle.relay.specs.Relaying.{fieldsWith, fieldsFor, Relays};
+use frame::Answer;
+use frame::Fields;
+use frame::Header;
+use frame::Stream;
+
+fn fields(h: Header, table: [Stream; 64]) -> Fields
+    ensures { λ r. ⌜ r ≡ fieldsWith h table ⌝ }
+{
+    let timestamp = h.timestamp;
+    Fields {
+        level: h.level,
+        fsync1: h.fsync1,
+        fct: h.fct,
+        ficf: h.ficf,
+        fp: h.fp,
+        mid: h.mid,
+        mnsc: h.mnsc,
+        rfu: h.rfu,
+        rfa: h.rfa,
+        timestamp,
+        count: h.nst as usize,
+        table,
+    }
+}
+
+fn again(frame: &[u8], x: Fields, out: &mut [u8]) -> u8
+    requires { ⌜ (refusalOf (now frame) ≡ 0) × (x ≡ fieldsFor (now frame)) ⌝ }
+    ensures { λ r. ⌜ Relays (now (frame .entry)) (now (out .entry)) (now (out .exit)) r ⌝ }
+{
+    writing::write(x, reading::main_stream(frame), out)
+}
+
+pub fn relay(frame: &[u8], out: &mut [u8]) -> u8
+    ensures { λ r. ⌜ Relays (now (frame .entry)) (now (out .entry)) (now (out .exit)) r ⌝ }
+{
+    let reading = reading::read(frame);
+    let answer = reading.answer;
+    let table = reading.table;
+    match answer {
+        Answer::Accepted(h) => again(frame, fields(h, table), out),
+        Answer::Refused(n) => n,
+    }
+}

@@ -1,0 +1,23 @@
+use borrow.Author.Needs.{needs}
+use lib.ListN.{length-take}
+use Rattle.rows.proofs.writes.lent.Statement.{statement}
+use Rattle.rows.proofs.writes.lent.Tie as tie
+
+slice-aggregate-write : tie.Need-slice-aggregate-write
+slice-aggregate-write c = simp length-take (search needs)
+
+pub lent-spec : {M : Type 1} → statement M
+lent-spec =
+    tie.close
+    (tie.spec
+    (λ c κs. search needs)
+    (λ c. search needs)
+    slice-aggregate-write
+    (λ c κs. search needs)
+    (λ c. search needs)
+    (λ c κs. search needs)
+    (λ c κs. search needs)
+    (λ c. search needs)
+    (λ c κs. search needs)
+    (λ c. search needs)
+    (λ c. search needs))
