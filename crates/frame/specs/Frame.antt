@@ -1,11 +1,11 @@
 -- The network frame, clause 6.2, and the logical frame in it, clause 5, from its list of bytes f. Byte k of the logical frame is byte 4 + k of f.
 -- Assumes nothing.
-use mathlib.Core.Bool.{Bool, true, false}
+use mathlib.Core.Bool.{Bool, true, false, _&&_}
 use mathlib.Core.List.{List, [], _∷_, _++_}
 use mathlib.Core.Path.{_≡_}
 use Prim.Native.Nat.{ℕ, zero, suc, _+_, _-_, _*_, max}
 use lib.Dec.{eqb}
-use lib.ListN.{getD, take, drop}
+use lib.ListN.{length, getD, take, drop}
 use Rattle.sum.specs.Sum.{sumOf}
 use Rattle.frame.specs.declared.Span.{Span}
 use Rattle.frame.specs.declared.Stream.{Stream}
@@ -47,6 +47,10 @@ fsyncs = 0x073AB6 ∷ 0xF8C549 ∷ []
 
 abbrev pub fsyncBy : ℕ → ℕ
 fsyncBy which = getD fsyncs which 0
+
+-- f is as long as a frame and its sync word is FSYNC1
+unfoldable pub isFsync1 : List ℕ → Bool
+isFsync1 f = eqb (length f) 6144 && eqb (placeIn fsyncs (fsyncOf f)) 1
 
 -- ---- FC, clause 5.3: FCT, FICF, NST, FP, MID, FL
 abbrev pub fcWidths : List ℕ

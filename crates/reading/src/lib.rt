@@ -6,7 +6,7 @@ ghost use Prim.Native.Nat.{_+_, _*_, _/_, _%_, _<_, _≤_};
 ghost use lib.ListN.{length, getD};
 ghost use Rattle.sum.specs.Sum.{sumOf};
 ghost use Rattle.frame.specs.Words.{wordAt};
-ghost use Rattle.frame.specs.Frame.{placeIn, statuses, fsyncs, errOf, fsyncOf, fctOf, ficfOf, nstOf, fpOf, midOf, flOf, mnscOf, headerSumOf, mainSumOf, rfuOf, rfaOf, timeOf, ficlBy, ficlOf, streamOf, streamsTo, stlTotal, levelBy, levelOf, between, mainSpan, ficSpan, streamSpan};
+ghost use Rattle.frame.specs.Frame.{placeIn, statuses, fsyncs, errOf, fsyncOf, isFsync1, fctOf, ficfOf, nstOf, fpOf, midOf, flOf, mnscOf, headerSumOf, mainSumOf, rfuOf, rfaOf, timeOf, ficlBy, ficlOf, streamOf, streamsTo, stlTotal, levelBy, levelOf, between, mainSpan, ficSpan, streamSpan};
 ghost use Rattle.frame.specs.Rules.{first, someStlAbove, refusalOf, streamRefusalOf, mainPart, ficPart, streamPart, Acceptable};
 ghost use Rattle.frame.specs.Answers.{tableBy, Reads, PartAt};
 ghost use Rattle.reading.specs.Steps.{headRules, bodyRules, headRulesOf, bodyRulesOf, headerFor, timestampFor, Counted, Has};
@@ -311,6 +311,16 @@ pub fn judge(frame: &[u8]) -> u8
         return head;
     }
     body_in(frame)
+}
+
+// Whether the bytes lent are as many as a frame's and their sync word is FSYNC1.
+pub fn is_fsync1(frame: &[u8]) -> bool
+    ensures { λ r. ⌜ r ≡ isFsync1 (now (frame .entry)) ⌝ }
+{
+    if frame.len() != 6144 {
+        return false;
+    }
+    fsync(fsync_word(frame)) == 1
 }
 
 // The level handed on.

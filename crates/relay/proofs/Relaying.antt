@@ -2,15 +2,14 @@
 -- Assumes nothing.
 use mathlib.Core.Bool.{Bool, true, false, not}
 use mathlib.Core.List.{List, [], _∷_}
-use mathlib.Core.Path.{_≡_, refl, sym, ap, subst, _∙_}
+use mathlib.Core.Path.{_≡_, refl, sym, ap, ap₂, subst, _∙_}
 use Prim.Native.Nat.{ℕ, _-_}
-use native.Mathlib.Omega.{arith}
 use borrow.Author.Tests.{eq-eqb, ne-eqb, eqb-true}
 use denote.Ref.{RefT, now}
 use lib.Dec.{eqb}
 use lib.ListN.{length, replicate}
 use lib.Seq.{take-at}
-use Rattle.frame.specs.declared.Answer.the-variants.{Accepted, Refused}
+use Rattle.frame.specs.declared.Answer.the-variants.{Accepted}
 use Rattle.frame.specs.declared.Fields.{Fields}
 use Rattle.frame.specs.declared.Header.{Header}
 use Rattle.frame.specs.declared.Reading.{Reading}
@@ -18,47 +17,23 @@ use Rattle.frame.specs.declared.Span.{Span}
 use Rattle.frame.specs.declared.Stream.{Stream}
 use Rattle.frame.specs.Frame.{nstOf, midOf, flOf, ficfOf, ficlBy, ficlOf, stlTotal, flBy, streamsOf, mainSpan, mainOf}
 use Rattle.frame.specs.Rules.{_when_, first, rulesOf, refusalOf, Acceptable, mainPart}
-use Rattle.frame.specs.Answers.{digit, timestampValues, noStream, numberOf, valuesOf, headerValues, fieldsOf, tableBy, Reads, PartAt}
+use Rattle.frame.specs.Answers.{digit, timestampValues, noStream, fieldsOf, tableBy, Reads, PartAt}
 use Rattle.frame.specs.Writing.{entriesOf, flIn, valuesIn, writingRefusalOf, frameIn, writtenOf, Writes, Bytes, Clean}
 use Rattle.frame.proofs.Accepting.{acceptable, nothing}
-use Rattle.frame.proofs.Answers.{answer-fixed}
 use Rattle.frame.proofs.Parts.{granted-given}
 use Rattle.frame.proofs.Rules.{first-zero, first-found}
 use Rattle.frame.proofs.Streams.{streams-length}
 use Rattle.reading.specs.Steps.{headerFor}
+use Rattle.reading.proofs.Answered.{got-header, got-table}
 use Rattle.reading.proofs.Answering.{header-values, digit-of, ficf-lt}
 use Rattle.trips.proofs.OneFrame.{one-frame}
 use Rattle.trips.proofs.ReadWritable.{read-unrefused}
 use Rattle.relay.specs.Relaying.{fieldsWith, fieldsFor, relayRefusalOf, Relays}
 
-module _ (f : List ℕ) (r : Reading) (reads : Reads f r) where
-  -- an answer that is accepted: the frame is, and the header is its header
-  pub got-number : (h : Header) → r .answer ≡ Accepted h → refusalOf f ≡ 0
-  got-number h e = sym (reads .number) ∙ ap numberOf e
-
-  pub got-fields : (h : Header) → r .answer ≡ Accepted h → fieldsWith h (r .table) ≡ fieldsFor f
-  unfolding fieldsFor
-  got-fields h e =
-      let z = got-number h e in
-      let y = eq-eqb (refusalOf f) 0 z in
-      let v : headerValues h ≡ headerValues (headerFor f) =
-      sym (ap valuesOf e) ∙ reads .values ∙ (rw y (sym (header-values f (acceptable f z)))) in
-      let a = answer-fixed (Accepted h) (Accepted (headerFor f)) refl v in
-      let p : h ≡ headerFor f = cc in
-      let q : r .table ≡ tableBy (streamsOf f) = reads .table ∙ (rw y) in
-      cc
-
-  -- an answer that is a refusal: its number is the frame's, and not 0
-  pub got-refused : (n : ℕ) → r .answer ≡ Refused n → n ≡ refusalOf f
-  got-refused n e = sym (ap numberOf e) ∙ reads .number
-
-  pub got-nonzero : (n : ℕ) → r .answer ≡ Refused n → n ≡ 0 → ⊥
-  unfolding fieldsOf
-  got-nonzero n e z =
-      let y = eq-eqb (refusalOf f) 0 (sym (got-refused n e) ∙ z) in
-      let v : [] ≡ fieldsOf f = sym (ap valuesOf e) ∙ reads .values ∙ (rw y) in
-      let c : _≡_ {A = ℕ} 0 1 = cc in
-      omega arith
+-- an accepted answer's header and table are the frame's, so the fields put together of them are
+pub got-fields : (f : List ℕ) (r : Reading) → Reads f r → (h : Header) → r .answer ≡ Accepted h → fieldsWith h (r .table) ≡ fieldsFor f
+unfolding fieldsFor
+got-fields f r reads h e = ap₂ fieldsWith (got-header f r reads h e) (got-table f r reads h e)
 
 module _ (f : List ℕ) (z : refusalOf f ≡ 0) where
   a : Acceptable f

@@ -1,4 +1,5 @@
-use Rattle.relay.proofs.Relaying.{got-number, got-fields, got-refused, got-nonzero, relay-refused}
+use Rattle.reading.proofs.Answered.{got-number, got-refused, got-nonzero}
+use Rattle.relay.proofs.Relaying.{got-fields, relay-refused}
 use mathlib.Core.Path.{_∙_}
 use borrow.Author.Needs.{needs}
 use Rattle.relay.proofs.relay.Statement.{statement}

@@ -1,0 +1,113 @@
+-- What the walk's proofs need of the rules: each look goes further, and a frame locks.
+use Prim.Native.Nat.{ℕ, _+_, _≤_, _<_}
+use mathlib.Core.Path.{_≡_, refl}
+use mathlib.Core.Bool.{Bool, true, false, _&&_}
+use mathlib.Core.Option.{none, some}
+use lib.Dec.{ltb}
+use native.Mathlib.Omega.{arith}
+use borrow.Author.Tests.{leb-true, ltb-true}
+use Rattle.walk.specs.Demand3.{placeOf}
+use Rattle.frame.specs.Frame.{pick}
+use Rattle.walk.specs.Walk.{Judged, Fair, State, Handed, Look, frame, lost, done, fits, confirmed, live, itemAt, keeps, lookLocked, lookHunting, look, locked, hunting}
+
+pub and-left : (a b : Bool) → (a && b) ≡ true → a ≡ true
+and-left true b e = refl
+and-left false b e = e
+
+pub live-fits : (R : Judged) (s : State) → live R s ≡ true → s .place + R .period ≤ R .len
+unfolding live
+live-fits R s e = leb-true (s .place + R .period) (R .len) (and-left (fits R (s .place)) _ e)
+
+-- OF `itemAt` AND `keeps`, all that the proofs use: these three, with `frame-keeps`
+pub stands-keeps : (R : Judged) (p : ℕ) → R .stands p ≡ true → keeps R p ≡ true
+unfolding keeps
+stands-keeps R p e = e
+
+pub stands-item : (R : Judged) (p : ℕ) → R .stands p ≡ true → itemAt R p ≡ frame p
+unfolding itemAt
+stands-item R p e = rw e
+
+pub place-item : (R : Judged) (p : ℕ) → placeOf (itemAt R p) ≡ p
+unfolding itemAt placeOf
+place-item R p = go (R .stands p)
+  where
+    go : (b : Bool) → placeOf (pick b (frame p) (lost p (R .number p))) ≡ p
+    go true = refl
+    go false = refl
+
+-- an item in lock is a frame only where the lock is kept, and it is never done
+frame-keeps : (R : Judged) (p q : ℕ) → itemAt R p ≡ frame q → (p ≡ q) × (keeps R p ≡ true)
+unfolding itemAt keeps
+frame-keeps R p q = go (R .stands p)
+  where
+    go : (b : Bool) → pick b (frame p) (lost p (R .number p)) ≡ frame q → (p ≡ q) × (b ≡ true)
+    go true e = (cc, refl)
+    go false e = (cc, cc)
+
+item-not-done : (R : Judged) (p q : ℕ) → itemAt R p ≡ done q → ⊥
+unfolding itemAt
+item-not-done R p q = go (R .stands p)
+  where
+    go : (b : Bool) → pick b (frame p) (lost p (R .number p)) ≡ done q → ⊥
+    go true e = let z : _≡_ {A = ℕ} 0 1 = cc in omega arith
+    go false e = let z : _≡_ {A = ℕ} 0 1 = cc in omega arith
+
+-- whatever holds of a look in every case of the rules
+pub by-rules : (R : Judged) (Q : State → Look → Type 0) →
+    ((p k : ℕ) → keeps R p ≡ true → Q (locked p k) (record { gives = some (itemAt R p); goes = locked (p + R .period) 0 })) →
+    ((p k : ℕ) → keeps R p ≡ false → k + 1 < R .limit → Q (locked p k) (record { gives = some (itemAt R p); goes = locked (p + R .period) (k + 1) })) →
+    ((p k : ℕ) → keeps R p ≡ false → Q (locked p k) (record { gives = some (itemAt R p); goes = hunting (p + 1) (k + 1) })) →
+    ((p k : ℕ) → Q (hunting p k) (record { gives = some (frame p); goes = locked (p + R .period) 0 })) →
+    ((p k : ℕ) → Q (hunting p k) (record { gives = none; goes = hunting (p + 1) k })) →
+    (s : State) → Q s (look R s)
+unfolding look lookLocked lookHunting
+by-rules R Q kept missed last hit passed s = go (s .place) (s .misses) (s .lock)
+  where
+    lose : (p k : ℕ) → keeps R p ≡ false → (b : Bool) → ltb (k + 1) (R .limit) ≡ b → Q (locked p k) (record { gives = some (itemAt R p); goes = pick b (locked (p + R .period) (k + 1)) (hunting (p + 1) (k + 1)) })
+    lose p k e true l = missed p k e (ltb-true (k + 1) (R .limit) l)
+    lose p k e false l = last p k e
+
+    inLock : (p k : ℕ) (b : Bool) → keeps R p ≡ b → Q (locked p k) (record { gives = some (itemAt R p); goes = pick b (locked (p + R .period) 0) (pick (ltb (k + 1) (R .limit)) (locked (p + R .period) (k + 1)) (hunting (p + 1) (k + 1))) })
+    inLock p k true e = kept p k e
+    inLock p k false e = lose p k e (ltb (k + 1) (R .limit)) refl
+
+    hunts : (p k : ℕ) (b : Bool) → Q (hunting p k) (pick b (record { gives = some (frame p); goes = locked (p + R .period) 0 }) (record { gives = none; goes = hunting (p + 1) k }))
+    hunts p k true = hit p k
+    hunts p k false = passed p k
+
+    go : (p k : ℕ) (b : Bool) → Q (record { place = p; misses = k; lock = b }) (pick b (lookLocked R p k) (lookHunting R p k))
+    go p k true = inLock p k (keeps R p) refl
+    go p k false = hunts p k (confirmed R p)
+
+-- each look is at a later place than the one before
+pub further : (R : Judged) → 0 < R .period → (s : State) → s .place < look R s .goes .place
+further R positive = by-rules R (λ s l. s .place < l .goes .place) (λ p k e. omega arith) (λ p k e b. omega arith) (λ p k e. omega arith) (λ p k. omega arith) (λ p k. omega arith)
+
+-- after a frame the walk is in lock, a period later, with no misses
+pub frame-locks : (R : Judged) (s : State) (q : ℕ) → look R s .gives ≡ some (frame q) → look R s .goes ≡ locked (q + R .period) 0
+frame-locks R s q = by-rules R (λ s l. l .gives ≡ some (frame q) → l .goes ≡ locked (q + R .period) 0)
+    (λ p k e f. cc (frame-keeps R p q (cc) .0)) (λ p k e b f. cc (frame-keeps R p q (cc) .1)) (λ p k e f. cc (frame-keeps R p q (cc) .1)) (λ p k f. cc) (λ p k f. cc) s
+
+-- no look hands out done
+pub never-done : (R : Judged) (s : State) (q : ℕ) → look R s .gives ≡ some (done q) → ⊥
+never-done R s q = by-rules R (λ s l. l .gives ≡ some (done q) → ⊥)
+    (λ p k e f. item-not-done R p q (cc)) (λ p k e b f. item-not-done R p q (cc)) (λ p k e f. item-not-done R p q (cc))
+    (λ p k f. let z : _≡_ {A = ℕ} 0 1 = cc in omega arith) (λ p k f. let z : _≡_ {A = ℕ} 0 1 = cc in omega arith) s
+
+place-frame : (p : ℕ) (x : Handed) → frame p ≡ x → placeOf x ≡ p
+unfolding placeOf
+place-frame p x e = rw (← e)
+
+-- a look that hands out nothing goes on by one place
+pub silent : (R : Judged) (s : State) → look R s .gives ≡ none → look R s .goes .place ≡ s .place + 1
+silent R = by-rules R (λ s l. l .gives ≡ none → l .goes .place ≡ s .place + 1) (λ p k e f. cc) (λ p k e b f. cc) (λ p k e f. cc) (λ p k f. cc) (λ p k f. refl)
+
+-- an item is at the place of its look
+pub item-place : (R : Judged) (s : State) (x : Handed) → look R s .gives ≡ some x → placeOf x ≡ s .place
+item-place R s x = by-rules R (λ s l. l .gives ≡ some x → placeOf x ≡ s .place)
+    (λ p k e f. cc (place-item R p)) (λ p k e b f. cc (place-item R p)) (λ p k e f. cc (place-item R p)) (λ p k f. place-frame p x (cc)) (λ p k f. cc) s
+
+-- the walk itself is never in lock with its misses spent
+pub sound : (R : Judged) → Fair R → (s : State) → look R s .goes .lock ≡ true → look R s .goes .misses < R .limit
+sound R fair = by-rules R (λ s l. l .goes .lock ≡ true → l .goes .misses < R .limit) (λ p k e f. fair .patient) (λ p k e b f. b)
+    (λ p k e f. let z : _≡_ {A = ℕ} 0 1 = cc in absurd (omega arith)) (λ p k f. fair .patient) (λ p k f. let z : _≡_ {A = ℕ} 0 1 = cc in absurd (omega arith))

@@ -1,0 +1,37 @@
+use mathlib.Core.Bool.{true}
+use mathlib.Core.Path.{sym, _∙_}
+use native.Mathlib.Omega.{arith}
+use Rattle.walk.proofs.Steps.{short, spent, lock-stands}
+use borrow.Author.Needs.{needs}
+use Rattle.walk.proofs.in_lock.Statement.{statement}
+use Rattle.walk.proofs.in_lock.Tie as tie
+
+returns : tie.Need-returns
+returns c = c .done-step .ensures ∙ spent (c .before .before .before .args .bytes .now) _ _ (omega arith)
+
+returns-2 : tie.Need-returns-2
+returns-2 c = c .done-step2 .ensures ∙ short (c .before .before .before .before .args .bytes .now) _ _ true (omega arith)
+
+returns-3 : tie.Need-returns-3
+returns-3 c = c .done-step3 .ensures ∙ short (c .before .before .before .before .before .args .bytes .now) _ _ true (omega arith)
+
+returns-4 : tie.Need-returns-4
+returns-4 c =
+    let start = c .before .before .before .before .before .before .before in
+    c .frame-step .ensures ∙ lock-stands (start .args .bytes .now) _ _ (omega arith) (omega arith) (sym (c .before .before .judge-at .ensures) ∙ c .before .if4 .taken)
+
+pub in-lock-spec : {M : Type 1} → statement M
+in-lock-spec =
+    tie.close
+    (tie.spec
+    (λ c κs. search needs)
+    returns
+    (λ c κs. search needs)
+    returns-2
+    (λ c κs. search needs)
+    returns-3
+    (λ c κs. search needs)
+    (λ c κs. search needs)
+    returns-4
+    (λ c κs. search needs)
+    (λ c. search needs))

@@ -1,0 +1,40 @@
+-- The words of demand 3.
+use Prim.Native.Nat.{ℕ, zero, suc, _+_, _*_, _≤_, _<_}
+use mathlib.Core.Path.{_≡_}
+use mathlib.Core.Bool.{true, not}
+use mathlib.Core.List.{List, [], _∷_}
+use lib.Dec.{leb}
+use Rattle.frame.specs.Frame.{pick}
+use Rattle.walk.specs.Walk.{Judged, Handed, frame, lost, done, itemAt, keeps}
+
+-- a record that ends with n intact frames, the first of them at a
+pub record Ends (R : Judged) (a n : ℕ) : Type 0 where
+  pub whole : R .len ≡ a + n * R .period
+  pub intact : (i : ℕ) → i < n → R .stands (a + i * R .period) ≡ true
+  pub alternating : (i : ℕ) → suc i < n → R .sync (a + suc i * R .period) ≡ not (R .sync (a + i * R .period))
+  -- from a period less one byte before the first on, no other place keeps a lock
+  pub alone : (q : ℕ) → a < q + R .period → q + R .period ≤ R .len → keeps R q ≡ true → (i : ℕ) × (i < n) × (q ≡ a + i * R .period)
+
+unfoldable pub placeOf : Handed → ℕ
+placeOf (frame p) = p
+placeOf (lost p n) = p
+placeOf (done p) = p
+
+-- the items of a list at c or later
+unfoldable pub since : ℕ → List Handed → List Handed
+since c [] = []
+since c (x ∷ xs) = pick (leb c (placeOf x)) (x ∷ since c xs) (since c xs)
+
+-- n frames, one after another, the first at p
+unfoldable pub frames : Judged → ℕ → ℕ → List Handed
+frames R p zero = []
+frames R p (suc n) = frame p ∷ frames R (p + R .period) n
+
+-- one item for each of n periods from p on: the frame if the place stands
+unfoldable pub periods : Judged → ℕ → ℕ → List Handed
+periods R p zero = []
+periods R p (suc n) = itemAt R p ∷ periods R (p + R .period) n
+
+-- of the n periods from p on, no `limit` in a row that end before the last all fail to keep the lock
+unfoldable pub Unbroken : Judged → ℕ → ℕ → Type 0
+Unbroken R p n = (i : ℕ) → i + R .limit < n → (j : ℕ) × (j < R .limit) × (keeps R (p + (i + j) * R .period) ≡ true)

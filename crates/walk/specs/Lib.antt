@@ -1,0 +1,3 @@
+pub mod Walk
+pub mod Demand3
+pub mod Records
