@@ -1,3 +1,4 @@
 pub mod Walk
 pub mod Demand3
 pub mod Records
+pub mod Tallies

@@ -1,12 +1,13 @@
 // Walking a record: the state, and a step from one item to the next.
 ghost use mathlib.Core.List.{[]};
 ghost use mathlib.Core.Path.{_≡_};
-ghost use Prim.Native.Nat.{_+_, _≤_};
+ghost use Prim.Native.Nat.{_+_, _≤_, _<_};
 ghost use lib.ListN.{length};
 ghost use Rattle.frame.specs.Rules.{refusalOf};
 ghost use Rattle.frame.specs.Answers.{tableBy, Reads};
 ghost use Rattle.walk.specs.Walk.{frame, confirmed, locked, hunting};
 ghost use Rattle.walk.specs.Records.{part, judged, fsync1At, stepShown, stepAt, doneAt, lostAt, Missed};
+ghost use Rattle.walk.specs.Tallies.{tallyWith, tallyOf};
 use frame::Answer;
 use frame::Header;
 use frame::Reading;
@@ -218,4 +219,77 @@ impl State {
             hunt(bytes, p, misses)
         }
     }
+}
+
+// The walk at its beginning: hunting at place 0.
+pub fn begin() -> State
+    ensures { λ r. ⌜ r ≡ hunting 0 0 ⌝ }
+{
+    State {
+        place: 0,
+        misses: 0,
+        lock: false,
+    }
+}
+
+// How many frames and lost marks were handed out, the place of the last item, and whether that was done.
+pub struct Tally {
+    pub frames: usize,
+    pub lost: usize,
+    pub place: usize,
+    pub done: bool,
+}
+
+impl Tally {
+    // With one item more. The counts end at the largest usize, which no record reaches.
+    fn with(self, item: Item) -> Tally
+        requires { ⌜ (self .frames < 18446744073709551615) × (self .lost < 18446744073709551615) ⌝ }
+        ensures { λ r. ⌜ r ≡ tallyWith self item ⌝ }
+    {
+        match item {
+            Item::Frame(p, _) => Tally {
+                frames: self.frames + 1,
+                lost: self.lost,
+                place: p,
+                done: false,
+            },
+            Item::Lost(p, _) => Tally {
+                frames: self.frames,
+                lost: self.lost + 1,
+                place: p,
+                done: false,
+            },
+            Item::Done(p) => Tally {
+                frames: self.frames,
+                lost: self.lost,
+                place: p,
+                done: true,
+            },
+        }
+    }
+}
+
+// The tally of at most so many steps over a record, from the beginning of the walk.
+pub fn count(bytes: &[u8], steps: usize) -> Tally
+    ensures { λ r. ⌜ r ≡ tallyOf (now (bytes .entry)) steps ⌝ }
+{
+    let mut walk = begin();
+    let mut seen = Tally {
+        frames: 0,
+        lost: 0,
+        place: 0,
+        done: false,
+    };
+    let mut left = steps;
+    while left > 0 {
+        let step = walk.step(bytes);
+        let item = step.item;
+        walk = step.walk;
+        seen = seen.with(item);
+        if seen.done {
+            return seen;
+        }
+        left -= 1;
+    }
+    seen
 }
