@@ -1,6 +1,11 @@
-# make run: the main job. make test: the gate.
-.PHONY: run test
+# make run: lists a record, samples/four.eti or RECORD=file. make test: the gate. make rows: the bench figures.
+.PHONY: run rows test
+RECORD = samples/four.eti
+
 run:
+	@tools/run listing <$(RECORD)
+
+rows:
 	@tools/run rows
 
 test:

@@ -1,4 +1,5 @@
 -- One look, rule by rule: what it does to the items, and to the step.
+-- Assumes nothing.
 use Prim.Native.Nat.{ℕ, _+_, _≤_, _<_}
 use mathlib.Core.Path.{_≡_, _∙_}
 use mathlib.Core.Bool.{true, false, and-false}
@@ -6,8 +7,8 @@ use mathlib.Core.List.{[], _∷_}
 use mathlib.Core.Option.{none, some}
 use native.Mathlib.Omega.{arith}
 use borrow.Author.Tests.{le-leb, lt-leb, lt-ltb, le-ltb}
-use Rattle.walk.specs.Walk.{Judged, Fair, State, Look, frame, done, fits, confirmed, live, itemAt, keeps, lookLocked, lookHunting, look, looks, giving, items, stepBy, stepOf, locked, hunting}
-use Rattle.walk.proofs.Looks.{looks-dead, items-dead, items-live, step-dead, step-live}
+use Rattle.walk.specs.Walk.{Judged, Fair, State, Look, frame, done, fits, confirmed, live, itemAt, keeps, lookLocked, lookHunting, look, giving, items, stepBy, stepOf, locked, hunting}
+use Rattle.walk.proofs.Looks.{items-dead, items-live, step-dead, step-live}
 
 module _ (R : Judged) (positive : 0 < R .period) where
   -- where the walk is done
@@ -18,9 +19,6 @@ module _ (R : Judged) (positive : 0 < R .period) where
   spent : (p k : ℕ) → R .limit ≤ k → live R (locked p k) ≡ false
   unfolding live
   spent p k h = rw (le-leb (R .limit) k h) (and-false (fits R p))
-
-  pub looks-short : (s : State) → R .len < s .place + R .period → looks R s ≡ []
-  looks-short s h = looks-dead R positive s (no-room s h)
 
   pub items-short : (s : State) → R .len < s .place + R .period → items R s ≡ []
   items-short s h = items-dead R positive s (no-room s h)

@@ -1,5 +1,11 @@
+pub mod Ending
+pub mod Examples
+pub mod First
 pub mod Laws
 pub mod Looks
+pub mod Records
 pub mod Rules
+pub mod Second
 pub mod Steps
 pub mod Tallies
+pub mod Three

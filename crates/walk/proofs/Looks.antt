@@ -1,4 +1,5 @@
--- The equations of the walk: from here on no proof sees the bound on the looks. Of the rules this file uses only that each look goes further.
+-- The equations of the walk, in which the bound on the looks is no longer seen. Of the rules they use only that each look goes further.
+-- Assumes nothing.
 use Prim.Native.Nat.{ℕ, zero, suc, _≤_, _<_}
 use mathlib.Core.Path.{_≡_, refl, ap, sym, _∙_}
 use mathlib.Core.Bool.{Bool, true, false}

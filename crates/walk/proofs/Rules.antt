@@ -1,4 +1,5 @@
--- What the walk's proofs need of the rules: each look goes further, and a frame locks.
+-- What the walk's proofs need of the rules: each look goes further, and after a frame the walk is in lock.
+-- Assumes nothing.
 use Prim.Native.Nat.{ℕ, _+_, _≤_, _<_}
 use mathlib.Core.Path.{_≡_, refl}
 use mathlib.Core.Bool.{Bool, true, false, _&&_}
@@ -8,7 +9,7 @@ use native.Mathlib.Omega.{arith}
 use borrow.Author.Tests.{leb-true, ltb-true}
 use Rattle.walk.specs.Demand3.{placeOf}
 use Rattle.frame.specs.Frame.{pick}
-use Rattle.walk.specs.Walk.{Judged, Fair, State, Handed, Look, frame, lost, done, fits, confirmed, live, itemAt, keeps, lookLocked, lookHunting, look, locked, hunting}
+use Rattle.walk.specs.Walk.{Judged, State, Look, frame, lost, done, fits, confirmed, live, itemAt, keeps, lookLocked, lookHunting, look, locked, hunting}
 
 pub and-left : (a b : Bool) → (a && b) ≡ true → a ≡ true
 and-left true b e = refl
@@ -53,7 +54,7 @@ item-not-done R p q = go (R .stands p)
     go false e = let z : _≡_ {A = ℕ} 0 1 = cc in omega arith
 
 -- whatever holds of a look in every case of the rules
-pub by-rules : (R : Judged) (Q : State → Look → Type 0) →
+by-rules : (R : Judged) (Q : State → Look → Type 0) →
     ((p k : ℕ) → keeps R p ≡ true → Q (locked p k) (record { gives = some (itemAt R p); goes = locked (p + R .period) 0 })) →
     ((p k : ℕ) → keeps R p ≡ false → k + 1 < R .limit → Q (locked p k) (record { gives = some (itemAt R p); goes = locked (p + R .period) (k + 1) })) →
     ((p k : ℕ) → keeps R p ≡ false → Q (locked p k) (record { gives = some (itemAt R p); goes = hunting (p + 1) (k + 1) })) →
@@ -93,21 +94,3 @@ pub never-done : (R : Judged) (s : State) (q : ℕ) → look R s .gives ≡ some
 never-done R s q = by-rules R (λ s l. l .gives ≡ some (done q) → ⊥)
     (λ p k e f. item-not-done R p q (cc)) (λ p k e b f. item-not-done R p q (cc)) (λ p k e f. item-not-done R p q (cc))
     (λ p k f. let z : _≡_ {A = ℕ} 0 1 = cc in omega arith) (λ p k f. let z : _≡_ {A = ℕ} 0 1 = cc in omega arith) s
-
-place-frame : (p : ℕ) (x : Handed) → frame p ≡ x → placeOf x ≡ p
-unfolding placeOf
-place-frame p x e = rw (← e)
-
--- a look that hands out nothing goes on by one place
-pub silent : (R : Judged) (s : State) → look R s .gives ≡ none → look R s .goes .place ≡ s .place + 1
-silent R = by-rules R (λ s l. l .gives ≡ none → l .goes .place ≡ s .place + 1) (λ p k e f. cc) (λ p k e b f. cc) (λ p k e f. cc) (λ p k f. cc) (λ p k f. refl)
-
--- an item is at the place of its look
-pub item-place : (R : Judged) (s : State) (x : Handed) → look R s .gives ≡ some x → placeOf x ≡ s .place
-item-place R s x = by-rules R (λ s l. l .gives ≡ some x → placeOf x ≡ s .place)
-    (λ p k e f. cc (place-item R p)) (λ p k e b f. cc (place-item R p)) (λ p k e f. cc (place-item R p)) (λ p k f. place-frame p x (cc)) (λ p k f. cc) s
-
--- the walk itself is never in lock with its misses spent
-pub sound : (R : Judged) → Fair R → (s : State) → look R s .goes .lock ≡ true → look R s .goes .misses < R .limit
-sound R fair = by-rules R (λ s l. l .goes .lock ≡ true → l .goes .misses < R .limit) (λ p k e f. fair .patient) (λ p k e b f. b)
-    (λ p k e f. let z : _≡_ {A = ℕ} 0 1 = cc in absurd (omega arith)) (λ p k f. fair .patient) (λ p k f. let z : _≡_ {A = ℕ} 0 1 = cc in absurd (omega arith))

@@ -1,6 +1,6 @@
 -- The step over the bytes of a record, as the code's proofs cite it.
 -- Assumes nothing.
-use mathlib.Core.Bool.{Bool, true, false, _&&_, and-false}
+use mathlib.Core.Bool.{Bool, true, false, and-false}
 use mathlib.Core.List.{List}
 use mathlib.Core.Path.{_≡_, refl, sym, ap, ap₂, _∙_}
 use Prim.Native.Nat.{ℕ, _+_, _-_, _≤_, _<_}
@@ -19,6 +19,7 @@ use Rattle.walk.specs.declared.State.{State}
 use Rattle.walk.specs.declared.Step.{Step}
 use Rattle.walk.specs.Walk.{Fair, Handed, Stepped, frame, lost, done, differ, confirmed, itemAt, keeps, stepOf, hunting, locked}
 use Rattle.walk.specs.Records.{part, judged, fsync1At, shown, tableShown, stepShown, stepAt, doneAt, lostAt}
+use Rattle.walk.proofs.Rules.{and-left}
 use Rattle.walk.proofs.Laws.{step-short, step-spent, step-kept, step-missed, step-last, step-confirmed, step-passed}
 
 pub part-is : (bytes : List ℕ) (p : ℕ) → take (p + 6144 - p) (drop p bytes) ≡ part bytes p
@@ -107,10 +108,6 @@ module _ (bytes : List ℕ) (p n : ℕ) (e : n ≡ refusalOf (part bytes p)) whe
     both-stand y s t es et =
         rw (eq-eqb (refusalOf (part bytes p)) 0 (sym e ∙ z), le-leb (p + 6144 + 6144) (length bytes) h, eq-eqb (refusalOf (part bytes (p + 6144))) 0 (sym d ∙ y))
         (ap₂ differ es et)
-
-and-left : (a b : Bool) → (a && b) ≡ true → a ≡ true
-and-left true b e = refl
-and-left false b e = e
 
 -- a confirmed place stands
 pub confirmed-stands : (bytes : List ℕ) (p : ℕ) → confirmed (judged 3 bytes) p ≡ true → refusalOf (part bytes p) ≡ 0

@@ -1,4 +1,5 @@
 -- The words of demand 3.
+-- Assumes nothing.
 use Prim.Native.Nat.{ℕ, zero, suc, _+_, _*_, _≤_, _<_}
 use mathlib.Core.Path.{_≡_}
 use mathlib.Core.Bool.{true, not}
@@ -7,12 +8,12 @@ use lib.Dec.{leb}
 use Rattle.frame.specs.Frame.{pick}
 use Rattle.walk.specs.Walk.{Judged, Handed, frame, lost, done, itemAt, keeps}
 
--- a record that ends with n intact frames, the first of them at a
+-- a record that ends with n intact frames, the first of them at a, their sync words taking turns
 pub record Ends (R : Judged) (a n : ℕ) : Type 0 where
   pub whole : R .len ≡ a + n * R .period
   pub intact : (i : ℕ) → i < n → R .stands (a + i * R .period) ≡ true
   pub alternating : (i : ℕ) → suc i < n → R .sync (a + suc i * R .period) ≡ not (R .sync (a + i * R .period))
-  -- from a period less one byte before the first on, no other place keeps a lock
+  -- from 6,143 bytes (a period less one) before the first of them onward no other place reads as acceptable, so none but theirs keeps a lock
   pub alone : (q : ℕ) → a < q + R .period → q + R .period ≤ R .len → keeps R q ≡ true → (i : ℕ) × (i < n) × (q ≡ a + i * R .period)
 
 unfoldable pub placeOf : Handed → ℕ
@@ -30,11 +31,11 @@ unfoldable pub frames : Judged → ℕ → ℕ → List Handed
 frames R p zero = []
 frames R p (suc n) = frame p ∷ frames R (p + R .period) n
 
--- one item for each of n periods from p on: the frame if the place stands
+-- one item for each of n periods from p on: the frame if the place stands, and a lost mark if not
 unfoldable pub periods : Judged → ℕ → ℕ → List Handed
 periods R p zero = []
 periods R p (suc n) = itemAt R p ∷ periods R (p + R .period) n
 
--- of the n periods from p on, no `limit` in a row that end before the last all fail to keep the lock
+-- of the n periods from p on, no `limit` in a row are all refused, but for a run that ends with the last of them
 unfoldable pub Unbroken : Judged → ℕ → ℕ → Type 0
 Unbroken R p n = (i : ℕ) → i + R .limit < n → (j : ℕ) × (j < R .limit) × (keeps R (p + (i + j) * R .period) ≡ true)

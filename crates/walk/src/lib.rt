@@ -89,6 +89,9 @@ fn no_streams() -> [Stream; 64]
     }; 64]
 }
 
+// The misses after a frame handed out.
+const CLEARED: usize = 0;
+
 // The frame that stands at p, and the walk in lock a period later.
 fn frame_step(bytes: &[u8], p: usize) -> Step
     requires { ⌜ (p + 6144 ≤ length (now bytes)) × (refusalOf (part (now bytes) p) ≡ 0) ⌝ }
@@ -96,7 +99,7 @@ fn frame_step(bytes: &[u8], p: usize) -> Step
 {
     let walk = State {
         place: p + 6144,
-        misses: 0,
+        misses: CLEARED,
         lock: true,
     };
     let reading = read_at(bytes, p);
