@@ -317,10 +317,11 @@ pub fn judge(frame: &[u8]) -> u8
 pub fn is_fsync1(frame: &[u8]) -> bool
     ensures { λ r. ⌜ r ≡ isFsync1 (now (frame .entry)) ⌝ }
 {
-    if frame.len() != 6144 {
-        return false;
+    if frame.len() == 6144 {
+        fsync(fsync_word(frame)) == 1
+    } else {
+        false
     }
-    fsync(fsync_word(frame)) == 1
 }
 
 // The level handed on.

@@ -6,11 +6,11 @@ use Rattle.reading.proofs.is_fsync1.Tie as tie
 
 returns : tie.Need-returns
 unfolding isFsync1
-returns c = rw (ne-eqb _ _ (c .if1 .taken))
+returns c = rw (eq-eqb _ _ (c .before .before .if1 .taken)) (cc)
 
 returns-2 : tie.Need-returns-2
 unfolding isFsync1
-returns-2 c = rw (eq-eqb _ _ (c .before .before .if1 .left)) (cc)
+returns-2 c = rw (ne-eqb _ _ (c .if1 .left))
 
 pub is-fsync1-spec : {M : Type 1} → statement M
-is-fsync1-spec = tie.close (tie.spec returns (λ c κs. search needs) (λ c κs. search needs) returns-2)
+is-fsync1-spec = tie.close (tie.spec (λ c κs. search needs) (λ c κs. search needs) returns returns-2)
