@@ -9,3 +9,4 @@ pub mod Second
 pub mod Steps
 pub mod Tallies
 pub mod Three
+pub mod Values
