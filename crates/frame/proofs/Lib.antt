@@ -4,6 +4,7 @@ pub mod Entries
 pub mod Parts
 pub mod Places
 pub mod Rules
+pub mod Stores
 pub mod Streams
 pub mod Tests
 pub mod Words

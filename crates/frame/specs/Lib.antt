@@ -2,4 +2,5 @@ pub mod Words
 pub mod Frame
 pub mod Rules
 pub mod Answers
+pub mod Stores
 pub mod Writing

@@ -13,8 +13,9 @@ use Rattle.frame.specs.Frame.{between, syncWidths, statusBy, fsyncBy, fcWidths,
 use Rattle.frame.specs.Answers.{digit}
 use Rattle.frame.specs.Writing.{entriesOf, flIn, streamsBytes, timeBy, syncIn, headerIn, endIn, frameIn}
 use Rattle.frame.proofs.Entries.{bytes-length}
-use Rattle.writing.specs.Steps.{put, Ready}
-use Rattle.writing.proofs.Puts.{put-chain, put-length, put-all}
+use Rattle.frame.specs.Stores.{put}
+use Rattle.writing.specs.Steps.{Ready}
+use Rattle.frame.proofs.Stores.{put-chain, put-length, put-all}
 
 -- a word put is the word that it equals
 word-put : (l b : List ℕ) (at v w : ℕ) → b ≡ put l at (split bytes4 v) → v ≡ w → b ≡ put l at (split bytes4 w)

@@ -1,19 +1,14 @@
 -- What the steps of writing say to each other.
 -- Assumes nothing.
 use mathlib.Core.Bool.{Bool, not}
-use mathlib.Core.List.{List, [], _∷_, _++_}
+use mathlib.Core.List.{List, [], _∷_}
 use mathlib.Core.Path.{_≡_}
 use Prim.Native.Nat.{ℕ, _+_, _*_, _≤_}
 use lib.Dec.{eqb, ltb}
-use lib.ListN.{length, take, drop}
 use Rattle.frame.specs.declared.Fields.{Fields}
 use Rattle.frame.specs.Frame.{stlTotal}
 use Rattle.frame.specs.Rules.{Rule, _when_, someStlAbove}
 use Rattle.frame.specs.Writing.{ficlIn, flIn, entriesOf}
-
--- l with vs in the place of what stood from `at` on
-unfoldable pub put : List ℕ → ℕ → List ℕ → List ℕ
-put l at vs = take at l ++ vs ++ drop (at + length vs) l
 
 -- writing's rules, in two parts
 abbrev pub headRules : ℕ → Bool → ℕ → List Rule

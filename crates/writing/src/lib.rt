@@ -11,7 +11,8 @@ ghost use Rattle.frame.specs.Frame.{between, syncWidths, statusBy, fsyncBy, fcW
 ghost use Rattle.frame.specs.Rules.{first, someStlAbove};
 ghost use Rattle.frame.specs.Answers.{digit};
 ghost use Rattle.frame.specs.Writing.{someWider, timeWider, streamValues, someStreamWider, wider, writingRefusalOf, streamsBytes, timeBy, flIn, syncIn, headerIn, frameIn, Writes};
-ghost use Rattle.writing.specs.Steps.{put, headRules, bodyRules, bodyOf, Ready};
+ghost use Rattle.frame.specs.Stores.{put};
+ghost use Rattle.writing.specs.Steps.{headRules, bodyRules, bodyOf, Ready};
 use frame::Fields;
 use frame::Stream;
 use frame::Timestamp;

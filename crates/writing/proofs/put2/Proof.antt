@@ -1,6 +1,6 @@
 use native.Mathlib.Omega.{arith}
 use lib.ListN.{length-set}
-use Rattle.writing.proofs.Puts.{put2-stores}
+use Rattle.frame.proofs.Stores.{put2-stores}
 use borrow.Author.Needs.{needs}
 use Rattle.writing.proofs.put2.Statement.{statement}
 use Rattle.writing.proofs.put2.Tie as tie

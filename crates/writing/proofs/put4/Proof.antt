@@ -1,6 +1,6 @@
 use native.Mathlib.Omega.{arith}
 use lib.ListN.{length-set}
-use Rattle.writing.proofs.Puts.{put4-stores}
+use Rattle.frame.proofs.Stores.{put4-stores}
 use borrow.Author.Needs.{needs}
 use Rattle.writing.proofs.put4.Statement.{statement}
 use Rattle.writing.proofs.put4.Tie as tie
