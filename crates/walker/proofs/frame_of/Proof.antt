@@ -1,0 +1,24 @@
+-- `walker::frame_of` meets its contract, item by item.
+-- Assumes nothing.
+use mathlib.Core.Path.{_∙_}
+use borrow.Author.Needs.{needs}
+use Rattle.walker.specs.Advance.{frameIn}
+use Rattle.walker.proofs.frame_of.Statement.{statement}
+use Rattle.walker.proofs.frame_of.Tie as tie
+
+returns : tie.Need-returns
+unfolding frameIn
+returns c = c .part-at .ensures ∙ (rw (c .before .before .item .given .1))
+
+returns-2 : tie.Need-returns-2
+unfolding frameIn
+returns-2 c = rw (c .before .enum-told .given .1)
+
+returns-3 : tie.Need-returns-3
+unfolding frameIn
+returns-3 c = rw (c .before .enum-told2 .given .1)
+
+pub frame-of-spec : {M : Type 1} → statement M
+frame-of-spec =
+    tie.close
+    (tie.spec (λ c. search needs) (λ c κs. search needs) (λ c. search needs) (λ c. search needs) (λ c. search needs) (λ c. search needs) (λ c. search needs) (λ c. search needs) (λ c. search needs) (λ c. search needs) returns returns-2 returns-3)

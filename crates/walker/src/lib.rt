@@ -1,0 +1,99 @@
+// The walk as one thing: the record and the walk's state in it, held together.
+// `begin`, `Walk::step` and `nth` are walked by hand; the work is in walk's `State::step`.
+ghost use mathlib.Core.Path.{_≡_};
+ghost use Rattle.walk.specs.Records.{part};
+ghost use Rattle.walker.specs.Advance.{frameIn, frameOf, begun, advanced, nthOf, itemOf};
+use frame::Stream;
+use walk::Item;
+use walk::State;
+use walk::Step;
+
+pub struct Walk<'a> {
+    pub record: &'a [u8],
+    pub state: State,
+}
+
+// The item, its stream table and its part of the record (zero and empty unless it is a frame), and the advanced walk.
+pub struct Advanced<'a> {
+    pub item: Item,
+    pub table: [Stream; 64],
+    pub frame: &'a [u8],
+    pub walk: Walk<'a>,
+}
+
+// The period at p, or what there is of it.
+fn part_at(record: &[u8], p: usize) -> &[u8]
+    ensures { λ r. ⌜ now r ≡ part (now («record» .entry)) p ⌝ }
+{
+    let n = record.len();
+    if p > n {
+        return &record[0..0];
+    }
+    if n - p < 6144 {
+        return &record[p..n];
+    }
+    let e = p + 6144;
+    &record[p..e]
+}
+
+// The item's frame; unless it is a frame, nothing, at the record's start.
+pub fn frame_of(record: &[u8], item: Item) -> &[u8]
+    ensures { λ r. ⌜ now r ≡ frameIn (now («record» .entry)) item ⌝ }
+{
+    match item {
+        Item::Frame(p, _) => part_at(record, p),
+        Item::Lost(_, _) => &record[0..0],
+        Item::Done(_) => &record[0..0],
+    }
+}
+
+// Hunting at place 0.
+pub fn begin<'a>(record: &'a [u8]) -> Walk<'a>
+    ensures { λ r. ⌜ r ≡ begun («record» .entry) ⌝ }
+{
+    let state = State {
+        place: 0,
+        misses: 0,
+        lock: false,
+    };
+    Walk { record, state }
+}
+
+impl<'a> Walk<'a> {
+    // To the next frame or lost mark of the record; done, at its place, where there is none.
+    pub fn step(self) -> Advanced<'a>
+        ensures { λ r. ⌜ (r ≡ advanced (self .entry) (r .frame)) × (now (r .frame) ≡ frameOf (self .entry)) ⌝ }
+    {
+        let s = self.state.step(self.record);
+        let frame = frame_of(self.record, s.item);
+        Advanced {
+            item: s.item,
+            table: s.table,
+            frame,
+            walk: Walk {
+                record: self.record,
+                state: s.walk,
+            },
+        }
+    }
+}
+
+// What the step after n steps hands back, from the beginning of the record: its item is the n-th of the record's walk.
+pub fn nth(record: &[u8], n: usize) -> Step
+    ensures { λ r. ⌜ (r ≡ nthOf (now («record» .entry)) n) × (r .item ≡ itemOf (now («record» .entry)) n) ⌝ }
+{
+    let mut w = begin(record);
+    let mut left = n;
+    loop {
+        let a = w.step();
+        if left == 0 {
+            return Step {
+                item: a.item,
+                table: a.table,
+                walk: a.walk.state,
+            };
+        }
+        w = a.walk;
+        left = left - 1;
+    }
+}
