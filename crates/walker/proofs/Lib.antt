@@ -1,3 +1,4 @@
 pub mod Held
 pub mod Items
 pub mod Parts
+pub mod Frames

@@ -33,8 +33,8 @@ use denote.Exit.{yes}
 use Rattle.walk.specs.Walk.{hunting}
 use Rattle.walk.proofs.State as St
 use Rattle.walk.proofs.State.Laws as St′
-use Rattle.walker.specs.Advance.{begun}
-use Rattle.walker.proofs.Held.{start-good, val, D, L, OwnRecord, mach, Own, holds}
+use Rattle.walker.specs.declared.Walk.{Walk}
+use Rattle.walker.proofs.Held.{start-good, val, on, D, L, OwnRecord, mach, Own, holds}
 use Rattle.walker.proofs.begin.Key.{name as #walker·begin}
 use Rattle.walker.proofs.begin as this
 use Rattle.walker.proofs.begin.Statement as stated
@@ -44,17 +44,20 @@ abbrev stayed : Stays (this.ended .signature .params) (this.ended .kept)
 stayed = (stay-none-slice (0 ∷ []) tt (plain (λ _. u8)) yes, tt)
 
 module _ {M : Type 1} (𝓤 : URA M) (H : Heap 𝓤) (A : Atoms 𝓤) (W : Given 𝓤 H A) (mem : Memory → SProp 𝓤) (run : Routine → Fun 𝓤) (κ : Lft) (q : Share) (s : RefT (List ℕ)) where
+  abbrev made : Walk
+  made = on s (hunting 0 0)
+
   abbrev at : List Val × Unit {0}
   at = (val s ∷ [], tt)
 
   abbrev Post : Val → SProp 𝓤
   Post = walkOf 𝓤 H A this.ended stayed (this.clauses 𝓤 H A mem run) .post (((κ, tt), (q, tt), tt, (s, tt), at), tt)
 
-  exits : ent 𝓤 (onEntry 𝓤 H A this.signature (κ, tt) (q, tt) (s, tt) at) (Post (mach κ (begun s)))
+  exits : ent 𝓤 (onEntry 𝓤 H A this.signature (κ, tt) (q, tt) (s, tt) at) (Post (mach κ made))
   exits =
       qed W ((‵ (flft κ q) ⊛ ‵ ftrue) ∷ ‵ (owns (ShrSlice (named 0) κ u8 ∷ []) (s, tt) at) ∷ []) ∵
-      suffices ! _ (ends-at 𝓤 H A this.ended stayed (this.clauses 𝓤 H A mem run) W (((κ, tt), (q, tt), tt, (s, tt), at), tt) (mach κ (begun s)) (begun s) (tt, tt) (tt, tt)) $ says ! refl $
-      frame ! $ fsplit ! $ use1 W (‵ (OwnRecord κ s) ⊛ ‵ (Own κ (begun s))) (holds 𝓤 H A W κ s (hunting 0 0) start-good) $ split ! $ move ! (0 ∷ 2 ∷ []) $ fjoin ! $ frame ! $ done !
+      suffices ! _ (ends-at 𝓤 H A this.ended stayed (this.clauses 𝓤 H A mem run) W (((κ, tt), (q, tt), tt, (s, tt), at), tt) (mach κ made) made (tt, tt) (tt, tt)) $ says ! refl $
+      frame ! $ fsplit ! $ use1 W (‵ (OwnRecord κ s) ⊛ ‵ (Own κ made)) (holds 𝓤 H A W κ s (hunting 0 0) start-good) $ split ! $ move ! (0 ∷ 2 ∷ []) $ fjoin ! $ frame ! $ done !
 
   module _ (C : Calls 𝓤 H) (Λ : Loops 𝓤 H) where
     walk : Is (ShrSlice (named 0) κ u8) s (val s ∷ []) → ent 𝓤 (onEntry 𝓤 H A this.signature (κ, tt) (q, tt) (s, tt) at) (WpFn 𝓤 H C Λ code.function (val s ∷ []) Post)
@@ -64,7 +67,7 @@ module _ {M : Type 1} (𝓤 : URA M) (H : Heap 𝓤) (A : Atoms 𝓤) (W : Given
         -- [_2; …; _1; …; room for _0; …; what is had at entry]
         assigns ! (agg ! (and-then ! (lit ! tt) (and-then ! (lit ! tt) (and-then ! (false-lit !) (no-more !))))) (from ! (stop !)) (init ! 0 refl (LL.lawful St.the-type St′.the-laws 𝓤 H A W .typed (hunting 0 0) _ start-good .0)) $
         assigns ! (agg ! (and-then ! (load ! (from ! (stop !)) (look ! 2 refl)) (and-then ! (load ! (from ! (stop !)) (look ! 0 refl)) (no-more !)))) (from ! (stop !))
-        (init ! 4 refl (LL.lawful (D κ) (L κ) 𝓤 H A W .typed (begun s) _ (LL.owes (D κ) (L κ) (begun s) (p, (start-good, tt))) .0)) $
+        (init ! 4 refl (LL.lawful (D κ) (L κ) 𝓤 H A W .typed made _ (LL.owes (D κ) (L κ) made (p, (start-good, tt))) .0)) $
         returns ! (look ! 4 refl) $ forget ! 0 refl $ forget ! 2 refl $ forget ! 4 refl $ move ! (4 ∷ 5 ∷ []) $ free1 ! $ move ! (2 ∷ 3 ∷ []) $ free1 ! $ free1 ! $ free0 ! $ by ! exits)))
 
 module _ {M : Type 1} (𝓤 : URA M) (H : Heap 𝓤) (A : Atoms 𝓤) (W : Given 𝓤 H A) (mem : Memory → SProp 𝓤) (run : Routine → Fun 𝓤) where
