@@ -3,24 +3,29 @@
 use mathlib.Core.Bool.{Bool, true, false}
 use mathlib.Core.List.{List, _++_}
 use mathlib.Core.Path.{_≡_, refl, sym, ap, ap₂, subst, _∙_}
-use Prim.Native.Nat.{ℕ, _+_, _*_, _<_}
-use borrow.Author.Tests.{eq-eqb, ne-eqb}
+use Prim.Native.Nat.{ℕ, _+_, _*_, _≤_, _<_}
+use native.Mathlib.Omega.{arith}
+use borrow.Author.Tests.{eq-eqb, ne-eqb, lt-ltb, le-ltb}
 use lib.Dec.{lit<, eqb}
-use lib.ListN.{length}
+use lib.ListN.{length, getD}
 use Rattle.frame.specs.declared.Answer.the-variants.{Accepted, Refused}
 use Rattle.frame.specs.declared.Header.{Header}
 use Rattle.frame.specs.declared.Reading.{Reading}
 use Rattle.frame.specs.declared.Timestamp.the-variants.{Absent, Time}
 use Rattle.frame.specs.Words.{wordAt}
 use Rattle.frame.specs.Frame.{pick, flOf, tistWidths, timeOf}
-use Rattle.frame.specs.Rules.{refusalOf}
+use Rattle.frame.specs.Rules.{refusalOf, streamRefusalOf, ficPart, streamPart}
 use Rattle.frame.specs.Answers.{headerValues, fieldsOf, Reads}
 use Rattle.frame.proofs.Accepting.{acceptable}
+use Rattle.frame.proofs.Parts.{fic-part-inside, stream-part-inside, stream-granted}
 use Rattle.frame.proofs.Words.{split-fit}
 use Rattle.reading.specs.Steps.{timestampFor, headerFor}
 use Rattle.reading.proofs.Answered.{got-number, got-header, got-table, got-refused, got-nonzero}
 use Rattle.reading.proofs.Answering.{header-values}
-use Rattle.controller.specs.Boundary.{timeIn, encode, headCounts, tableBytes, answerOf, boundaryRefusalOf, Answers}
+use Rattle.controller.specs.Boundary.{timeIn, encode, headCounts, tableBytes, answerOf, stateRefusalOf, lentRefusal, Told}
+use Rattle.walk.specs.declared.State.{State}
+use Rattle.walk.specs.Records.{judged, stepShown, stepAt}
+use Rattle.walk.proofs.Misses.{misses-within}
 
 split-lt : (f : List ℕ) → timeOf f < 16777216
 unfolding timeOf
@@ -34,28 +39,35 @@ fits n h = go (eqb n 0xFFFFFF) refl
     go true e = lit< tt
     go false e = h
 
-pub wrong-length : (f before : List ℕ) → (length before ≡ 402 → ⊥) → Answers f before before 1
-unfolding boundaryRefusalOf
-wrong-length f before h = let y = ne-eqb (length before) 402 h in record { number = rw y; answer = rw y }
+-- ---- the three outcomes of an export with n answer bytes
+module _ (n refusal : ℕ) (bytes before : List ℕ) where
+  pub wrong-length : (length before ≡ n → ⊥) → Told n refusal bytes before before 1
+  wrong-length h = let y = ne-eqb (length before) n h in record { number = rw y; answer = rw y }
 
+  module _ (whole : length before ≡ n) (r : ℕ) (e : r ≡ refusal) where
+    own : lentRefusal n (length before) refusal ≡ refusal
+    own = rw (eq-eqb (length before) n whole)
+
+    pub told-refused : (r ≡ 0 → ⊥) → Told n refusal bytes before before r
+    told-refused h = record { number = e ∙ sym own; answer = rw (ne-eqb (lentRefusal n (length before) refusal) 0 (λ z. h (e ∙ sym own ∙ z))) }
+
+    pub told-given : r ≡ 0 → (after : List ℕ) → after ≡ bytes → Told n refusal bytes before after 0
+    told-given z after p =
+        let o = own ∙ sym e ∙ z in
+        record { number = sym o; answer = p ∙ (rw (eq-eqb (lentRefusal n (length before) refusal) 0 o)) }
+
+-- ---- reading
 module _ (f before : List ℕ) (whole : length before ≡ 402) (r : Reading) (reads : Reads f r) where
-  number-is : boundaryRefusalOf f (length before) ≡ refusalOf f
-  unfolding boundaryRefusalOf refusalOf
-  number-is = rw (eq-eqb (length before) 402 whole)
+  pub refused : (n : ℕ) → r .answer ≡ Refused n → Told 402 (refusalOf f) (answerOf f) before before n
+  refused n e = told-refused 402 (refusalOf f) (answerOf f) before whole n (got-refused f r reads n e) (got-nonzero f r reads n e)
 
-  pub refused : (n : ℕ) → r .answer ≡ Refused n → Answers f before before n
-  refused n e =
-      let p = got-refused f r reads n e ∙ sym number-is in
-      record { number = p; answer = rw (ne-eqb (boundaryRefusalOf f (length before)) 0 (λ z. got-nonzero f r reads n e (p ∙ z))) }
-
-  pub accepted : (h : Header) → r .answer ≡ Accepted h → (after : List ℕ) → after ≡ encode headCounts (headerValues h) ++ tableBytes (r .table) → Answers f before after 0
+  pub accepted : (h : Header) → r .answer ≡ Accepted h → (after : List ℕ) → after ≡ encode headCounts (headerValues h) ++ tableBytes (r .table) → Told 402 (refusalOf f) (answerOf f) before after 0
   unfolding answerOf
   accepted h e after p =
       let z = got-number f r reads h e in
       let v : headerValues h ≡ fieldsOf f = ap headerValues (got-header f r reads h e) ∙ header-values f (acceptable f z) in
       let w = ap₂ (λ vs ts. encode headCounts vs ++ tableBytes ts) v (got-table f r reads h e) in
-      let o = number-is ∙ z in
-      record { number = sym o; answer = p ∙ w ∙ (rw (eq-eqb (boundaryRefusalOf f (length before)) 0 o)) }
+      told-given 402 (refusalOf f) (answerOf f) before whole 0 (sym z) refl after (p ∙ w)
 
   -- a timestamp that reading gave is of 24 bits
   pub time-fits : (h : Header) → r .answer ≡ Accepted h → timeIn (h .timestamp) < 16777216
@@ -63,3 +75,23 @@ module _ (f before : List ℕ) (whole : length before ≡ 402) (r : Reading) (re
   time-fits h e =
       subst (λ (k : Header). timeIn (k .timestamp) < 16777216) (sym (got-header f r reads h e))
       (fits (timeOf f) (split-lt f))
+
+-- ---- parts: given, they lie within the frame
+pub fic-short : (f : List ℕ) (n : ℕ) → n ≡ refusalOf f → n ≡ 0 → ficPart f .start + ficPart f .len ≤ 6144
+fic-short f n e z = omega (arith, fic-part-inside f, acceptable f (sym e ∙ z) .whole)
+
+pub stream-short : (f : List ℕ) (i n : ℕ) → n ≡ streamRefusalOf f i → n ≡ 0 → streamPart f i .start + streamPart f i .len ≤ 6144
+stream-short f i n e z = omega (arith, stream-part-inside f i, stream-granted f i (sym e ∙ z) .0 .whole)
+
+-- ---- the walk's state
+pub lock-wide : (w : List ℕ) → 1 < getD w 9 0 → 12 ≡ stateRefusalOf w
+unfolding stateRefusalOf
+lock-wide w h = rw (lt-ltb 1 (getD w 9 0) h)
+
+pub lock-fits : (w : List ℕ) → getD w 9 0 ≤ 1 → 0 ≡ stateRefusalOf w
+unfolding stateRefusalOf
+lock-fits w h = rw (le-ltb 1 (getD w 9 0) h)
+
+pub few-misses : (bytes : List ℕ) (s : State) → s .misses ≤ 255 → stepAt bytes s .walk .misses ≤ 255
+unfolding stepAt stepShown judged
+few-misses bytes s h = misses-within (judged 3 bytes) (omega arith) 255 (omega arith) s h

@@ -2,11 +2,11 @@
 -- Assumes nothing.
 use mathlib.Core.List.{List, [], _∷_, _++_, append-assoc, append-nil}
 use mathlib.Core.Path.{_≡_, refl, sym, ap, _∙_}
-use Prim.Native.Nat.{ℕ, suc, _+_, _*_, _≤_, _<_}
+use Prim.Native.Nat.{ℕ, _+_, _*_, _<_}
 use native.Mathlib.Numerals.{add-one}
 use native.Mathlib.Omega.{arith}
-use lib.ListN.{length, getD, take, set, length-append}
-use lib.Seq.{length-take-le, take-suc, sets-eq}
+use lib.ListN.{length, getD, take, length-append}
+use lib.Seq.{length-take-le, take-suc}
 use Rattle.frame.specs.declared.Header.{Header}
 use Rattle.frame.specs.declared.Stream.{Stream}
 use Rattle.frame.specs.declared.Timestamp.{Timestamp}
@@ -15,34 +15,9 @@ use Rattle.frame.specs.Answers.{timestampValues, headerValues, noStream}
 use Rattle.frame.specs.Stores.{put}
 use Rattle.frame.specs.Writing.{streamValues}
 use Rattle.frame.proofs.Stores.{put-then, put-chain, put-all}
-use Rattle.controller.specs.Boundary.{sortIn, timeIn, encode, headCounts, firstCounts, firstValues, secondCounts, secondValues, streamCounts, tableBytes}
-
--- six stores in a row
-pub six-stores : (l : List ℕ) (at a b c d e f : ℕ) → at + 6 ≤ length l
-    → set (set (set (set (set (set l at a) (at + 1) b) (at + 2) c) (at + 3) d) (at + 4) e) (at + 5) f
-    ≡ put l at (a ∷ b ∷ c ∷ d ∷ e ∷ f ∷ [])
-unfolding put
-six-stores l at a b c d e f h =
-    let p : at + 2 ≡ suc (suc at) = omega arith in
-    let q : at + 3 ≡ suc (suc (suc at)) = omega arith in
-    let r : at + 4 ≡ suc (suc (suc (suc at))) = omega arith in
-    let s : at + 5 ≡ suc (suc (suc (suc (suc at)))) = omega arith in
-    rw (add-one at, p, q, r, s) (sets-eq (a ∷ b ∷ c ∷ d ∷ e ∷ f ∷ []) l at h)
-
--- nine stores in a row
-pub nine-stores : (l : List ℕ) (at a b c d e f g h i : ℕ) → at + 9 ≤ length l
-    → set (set (set (set (set (set (set (set (set l at a) (at + 1) b) (at + 2) c) (at + 3) d) (at + 4) e) (at + 5) f) (at + 6) g) (at + 7) h) (at + 8) i
-    ≡ put l at (a ∷ b ∷ c ∷ d ∷ e ∷ f ∷ g ∷ h ∷ i ∷ [])
-unfolding put
-nine-stores l at a b c d e f g h i z =
-    let p : at + 2 ≡ suc (suc at) = omega arith in
-    let q : at + 3 ≡ suc (suc (suc at)) = omega arith in
-    let r : at + 4 ≡ suc (suc (suc (suc at))) = omega arith in
-    let s : at + 5 ≡ suc (suc (suc (suc (suc at)))) = omega arith in
-    let t : at + 6 ≡ suc (suc (suc (suc (suc (suc at))))) = omega arith in
-    let u : at + 7 ≡ suc (suc (suc (suc (suc (suc (suc at)))))) = omega arith in
-    let v : at + 8 ≡ suc (suc (suc (suc (suc (suc (suc (suc at))))))) = omega arith in
-    rw (add-one at, p, q, r, s, t, u, v) (sets-eq (a ∷ b ∷ c ∷ d ∷ e ∷ f ∷ g ∷ h ∷ i ∷ []) l at z)
+use Rattle.controller.specs.Boundary.{sortIn, timeIn, inBytes, encode, headCounts, firstCounts, firstValues, secondCounts, secondValues, streamCounts, tableBytes, placeOf, marks, stepBytes}
+use Rattle.walk.specs.declared.Item.{Item}
+use Rattle.walk.specs.declared.State.{State}
 
 bytes-append : (ss ts : List Stream) → tableBytes (ss ++ ts) ≡ tableBytes ss ++ tableBytes ts
 unfolding tableBytes
@@ -90,3 +65,16 @@ parts h t l a b d o k pa pb pd =
     let p = put-chain l a b 0 9 A B pa pb refl (omega arith) in
     let q = put-chain l b d 0 18 (A ++ B) (tableBytes t) p pd refl (omega arith) in
     q ∙ put-all l ((A ++ B) ++ tableBytes t) (simp length-append (omega arith)) ∙ rw (timestamp-two (h .timestamp))
+
+-- state and item are the whole of a walk's bytes
+pub step-stored : (x : Item) (s : State) (l a b d : List ℕ) → length l ≡ 20
+    → a ≡ put l 0 (inBytes 8 (s .place))
+    → b ≡ put a 8 (marks x s)
+    → d ≡ put b 12 (inBytes 8 (placeOf x))
+    → d ≡ stepBytes x s
+unfolding stepBytes
+step-stored x s l a b d o pa pb pd =
+    let A = inBytes 8 (s .place) in
+    let p = put-chain l a b 0 8 A (marks x s) pa pb refl (omega arith) in
+    let q = put-chain l b d 0 12 (A ++ marks x s) (inBytes 8 (placeOf x)) p pd refl (omega arith) in
+    q ∙ put-all l ((A ++ marks x s) ++ inBytes 8 (placeOf x)) (omega arith)

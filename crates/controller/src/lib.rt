@@ -1,16 +1,23 @@
-// The single-frame reading for the transmitter's controller, on byte slices.
-ghost use mathlib.Core.List.{_++_};
+// The reading and the walk for the transmitter's controller, on numbers and byte slices.
+ghost use mathlib.Core.List.{[], _∷_, _++_};
 ghost use mathlib.Core.Path.{_≡_};
 ghost use Prim.Native.Nat.{_+_, _≤_, _<_};
-ghost use lib.ListN.{length};
+ghost use lib.ListN.{length, getD};
+ghost use Rattle.frame.specs.Words.{wordAt};
 ghost use Rattle.frame.specs.Stores.{put};
+ghost use Rattle.frame.specs.Rules.{refusalOf, streamRefusalOf, ficPart, streamPart};
 ghost use Rattle.frame.specs.Answers.{digit, headerValues};
 ghost use Rattle.frame.specs.Writing.{streamValues};
-ghost use Rattle.controller.specs.Boundary.{encode, headCounts, firstCounts, firstValues, secondCounts, secondValues, streamCounts, tableBytes, sortIn, timeIn, Answers};
+ghost use Rattle.walk.specs.Records.{stepAt};
+ghost use Rattle.controller.specs.Boundary.{inBytes, encode, headCounts, firstCounts, firstValues, secondCounts, secondValues, streamCounts, tableBytes, sortIn, timeIn, answerOf, partBytes, kindIn, lostIn, placeOf, marks, stepBytes, stateIn, stateRefusalOf, Told};
 use frame::Answer;
 use frame::Header;
+use frame::Span;
 use frame::Stream;
 use frame::Timestamp;
+use walk::Item;
+use walk::State;
+use walk::Step;
 
 fn bit(b: bool) -> u8
     ensures { λ r. ⌜ r ≡ digit b ⌝ }
@@ -115,7 +122,7 @@ fn put_answer(out: &mut [u8], h: Header, table: [Stream; 64])
 // The refusal number, 0 for accepted; then the answer bytes hold the header and the table. Refused, not one is written.
 #[no_mangle]
 pub extern "C" fn spindlewren_read(frame: &[u8], answer: &mut [u8]) -> u8
-    ensures { λ r. ⌜ Answers (now (frame .entry)) (now (answer .entry)) (now (answer .exit)) r ⌝ }
+    ensures { λ r. ⌜ Told 402 (refusalOf (now (frame .entry))) (answerOf (now (frame .entry))) (now (answer .entry)) (now (answer .exit)) r ⌝ }
 {
     if answer.len() != 402 {
         return 1;
@@ -130,4 +137,170 @@ pub extern "C" fn spindlewren_read(frame: &[u8], answer: &mut [u8]) -> u8
         }
         Answer::Refused(n) => n,
     }
+}
+
+// Where a part of a frame begins and how many bytes it has, in two bytes each.
+fn put_part(out: &mut [u8], part: Span)
+    requires { ⌜ (length (now out) ≡ 4) × (part .start + part .len ≤ 6144) ⌝ }
+    ensures { λ _. ⌜ now (out .exit) ≡ partBytes part ⌝ }
+{
+    let start = part.start;
+    let len = part.len;
+    out[0] = (start / 256) as u8;
+    out[1] = (start % 256) as u8;
+    out[2] = (len / 256) as u8;
+    out[3] = (len % 256) as u8;
+}
+
+// The refusal number of a request for the FIC; where it is 0, the answer bytes hold the FIC's place and length.
+#[no_mangle]
+pub extern "C" fn spindlewren_fic(frame: &[u8], answer: &mut [u8]) -> u8
+    ensures { λ r. ⌜ Told 4 (refusalOf (now (frame .entry))) (partBytes (ficPart (now (frame .entry)))) (now (answer .entry)) (now (answer .exit)) r ⌝ }
+{
+    if answer.len() != 4 {
+        return 1;
+    }
+    let refusal = reading::fic_refusal(frame);
+    if refusal != 0 {
+        return refusal;
+    }
+    put_part(answer, reading::fic_place(frame));
+    0
+}
+
+// Likewise for stream i.
+#[no_mangle]
+pub extern "C" fn spindlewren_stream(frame: &[u8], i: usize, answer: &mut [u8]) -> u8
+    ensures { λ r. ⌜ Told 4 (streamRefusalOf (now (frame .entry)) i) (partBytes (streamPart (now (frame .entry)) i)) (now (answer .entry)) (now (answer .exit)) r ⌝ }
+{
+    if answer.len() != 4 {
+        return 1;
+    }
+    let refusal = reading::stream_refusal(frame, i);
+    if refusal != 0 {
+        return refusal;
+    }
+    put_part(answer, reading::stream_place(frame, i));
+    0
+}
+
+fn byte(bytes: &[u8], at: usize) -> usize
+    requires { ⌜ at < length (now bytes) ⌝ }
+    ensures { λ r. ⌜ (r ≡ getD (now (bytes .entry)) at 0) × (r < 256) ⌝ }
+{
+    bytes[at] as usize
+}
+
+// The word that begins at a place.
+fn word(bytes: &[u8], at: usize) -> usize
+    requires { ⌜ at + 3 < length (now bytes) ⌝ }
+    ensures { λ r. ⌜ (r ≡ wordAt (now (bytes .entry)) at) × (r < 4294967296) ⌝ }
+{
+    byte(bytes, at) * 16777216
+        + byte(bytes, at + 1) * 65536
+        + byte(bytes, at + 2) * 256
+        + byte(bytes, at + 3)
+}
+
+// The walk's state, as its first ten bytes have it.
+fn state_in(walk: &[u8]) -> State
+    requires { ⌜ length (now walk) ≡ 20 ⌝ }
+    ensures { λ r. ⌜ (r ≡ stateIn (now (walk .entry))) × (r .misses ≤ 255) ⌝ }
+{
+    let high = word(walk, 0);
+    let low = word(walk, 4);
+    State {
+        place: high * 4294967296 + low,
+        misses: byte(walk, 8),
+        lock: byte(walk, 9) == 1,
+    }
+}
+
+fn kind(item: Item) -> u8
+    ensures { λ r. ⌜ r ≡ kindIn item ⌝ }
+{
+    match item {
+        Item::Frame(_, _) => 0,
+        Item::Lost(_, _) => 1,
+        Item::Done(_) => 2,
+    }
+}
+
+fn lost(item: Item) -> u8
+    ensures { λ r. ⌜ r ≡ lostIn item ⌝ }
+{
+    match item {
+        Item::Frame(_, _) => 0,
+        Item::Lost(_, n) => n,
+        Item::Done(_) => 0,
+    }
+}
+
+fn place(item: Item) -> usize
+    ensures { λ r. ⌜ r ≡ placeOf item ⌝ }
+{
+    match item {
+        Item::Frame(p, _) => p,
+        Item::Lost(p, _) => p,
+        Item::Done(p) => p,
+    }
+}
+
+// A place in eight bytes.
+fn put_place(out: &mut [u8], at: usize, n: usize)
+    requires { ⌜ at + 8 ≤ length (now out) ⌝ }
+    ensures { λ _. ⌜ now (out .exit) ≡ put (now (out .entry)) at (inBytes 8 n) ⌝ }
+{
+    out[at] = (n / 256 / 256 / 256 / 256 / 256 / 256 / 256) as u8;
+    out[at + 1] = (n / 256 / 256 / 256 / 256 / 256 / 256 % 256) as u8;
+    out[at + 2] = (n / 256 / 256 / 256 / 256 / 256 % 256) as u8;
+    out[at + 3] = (n / 256 / 256 / 256 / 256 % 256) as u8;
+    out[at + 4] = (n / 256 / 256 / 256 % 256) as u8;
+    out[at + 5] = (n / 256 / 256 % 256) as u8;
+    out[at + 6] = (n / 256 % 256) as u8;
+    out[at + 7] = (n % 256) as u8;
+}
+
+// Misses and lock, and the kind and refusal number of the item, from byte 8 on.
+fn put_marks(out: &mut [u8], item: Item, walk: State)
+    requires { ⌜ (length (now out) ≡ 20) × (walk .misses ≤ 255) ⌝ }
+    ensures { λ _. ⌜ now (out .exit) ≡ put (now (out .entry)) 8 (marks item walk) ⌝ }
+{
+    let lock = bit(walk.lock);
+    let kind = kind(item);
+    let lost = lost(item);
+    out[8] = walk.misses as u8;
+    out[9] = lock;
+    out[10] = kind;
+    out[11] = lost;
+}
+
+// The advanced walk in ten bytes, and its item in ten.
+fn put_step(out: &mut [u8], item: Item, walk: State)
+    requires { ⌜ (length (now out) ≡ 20) × (walk .misses ≤ 255) ⌝ }
+    ensures { λ _. ⌜ now (out .exit) ≡ stepBytes item walk ⌝ }
+{
+    let at = place(item);
+    put_place(out, 0, walk.place);
+    put_marks(out, item, walk);
+    put_place(out, 12, at);
+}
+
+// A step of the walk whose state is in the lent bytes: they then hold the advanced walk and its item. Any bytes are taken.
+#[no_mangle]
+pub extern "C" fn spindlewren_step(bytes: &[u8], walk: &mut [u8]) -> u8
+    ensures { λ r. ⌜ Told 20 (stateRefusalOf (now (walk .entry))) (stepBytes (stepAt (now (bytes .entry)) (stateIn (now (walk .entry))) .item) (stepAt (now (bytes .entry)) (stateIn (now (walk .entry))) .walk)) (now (walk .entry)) (now (walk .exit)) r ⌝ }
+{
+    if walk.len() != 20 {
+        return 1;
+    }
+    if walk[9] > 1 {
+        return 12;
+    }
+    let state = state_in(walk);
+    let step = state.step(bytes);
+    let item = step.item;
+    let next = step.walk;
+    put_step(walk, item, next);
+    0
 }

@@ -2,13 +2,12 @@
 -- Assumes nothing.
 use mathlib.Core.List.{List, [], _∷_, _++_, append-assoc, append-nil}
 use mathlib.Core.Path.{_≡_, sym, ap, ap₂, _∙_}
-use Prim.Native.Nat.{ℕ, suc, _+_, _/_, _%_, _≤_, _<_}
+use Prim.Native.Nat.{ℕ, _+_, _/_, _%_, _≤_, _<_}
 use native.Mathlib.Nat.{zero-add, add-assoc}
 use native.Mathlib.Numerals.{add-one}
 use native.Mathlib.Omega.{arith}
-use lib.ListN.{length, getD, take, drop, set, length-append, length-drop}
+use lib.ListN.{length, getD, take, drop, set, length-set, length-append, length-drop}
 use lib.Seq.{length-take-le, take-at, drop-at, drop-drop, drop-length, take-suc, sets-eq}
-use Rattle.frame.specs.Words.{split, bytes2, bytes4}
 use Rattle.frame.specs.Stores.{put}
 
 module _ (l : List ℕ) (at : ℕ) (us : List ℕ) (h : at + length us ≤ length l) where
@@ -55,22 +54,36 @@ pub put-all : (l vs : List ℕ) → length vs ≡ length l → put l 0 vs ≡ vs
 unfolding put
 put-all l vs e = rw (zero-add (length vs), e, drop-length l) (append-nil vs)
 
--- two stores, and four
-pub put2-stores : (l : List ℕ) (at n : ℕ) → at + 2 ≤ length l → set (set l at (n / 256 % 256)) (at + 1) (n % 256) ≡ put l at (split bytes2 n)
-unfolding put
-put2-stores l at n h =
-    let e : n % 256 ≡ n / 1 % 256 = omega arith in
-    rw (add-one at, e) (sets-eq (split bytes2 n) l at h)
+-- one element, then others behind it
+set-then : (l : List ℕ) (n v : ℕ) (vs : List ℕ) → n + 1 + length vs ≤ length l → put (set l n v) (n + 1) vs ≡ put l n (v ∷ vs)
+set-then l n v vs h = rw (set-put l n v (omega arith)) (put-then l n (v ∷ []) (omega arith) vs)
 
-pub put4-stores : (l : List ℕ) (at w : ℕ) → at + 4 ≤ length l
-    → set (set (set (set l at (w / 16777216 % 256)) (at + 1) (w / 65536 % 256)) (at + 2) (w / 256 % 256)) (at + 3) (w % 256)
-    ≡ put l at (split bytes4 w)
-unfolding put
-put4-stores l at w h =
-    let e : w % 256 ≡ w / 1 % 256 = omega arith in
-    let p : at + 2 ≡ suc (suc at) = omega arith in
-    let q : at + 3 ≡ suc (suc (suc at)) = omega arith in
-    rw (add-one at, p, q, e) (sets-eq (split bytes4 w) l at h)
+-- stores at k, k + 1 and so on from `at` on, as code makes them
+abbrev pub storing : List ℕ → ℕ → ℕ → List ℕ → List ℕ
+storing l at k [] = l
+storing l at k (v ∷ vs) = storing (set l (at + k) v) at (k + 1) vs
+
+storing-put : (vs l : List ℕ) (at k : ℕ) → at + k + length vs ≤ length l → storing l at k vs ≡ put l (at + k) vs
+storing-put [] l at k h = put-none l (at + k) (omega arith)
+storing-put (v ∷ vs) l at k h =
+    let n = length-set l (at + k) v in
+    let e : at + (k + 1) ≡ at + k + 1 = omega arith in
+    storing-put vs (set l (at + k) v) at (k + 1) (omega arith)
+    ∙ ap (λ (m : ℕ). put (set l (at + k) v) m vs) e
+    ∙ set-then l (at + k) v vs (omega arith)
+
+-- any number of stores in a row
+pub stores : (l : List ℕ) (at v : ℕ) (vs : List ℕ) → at + (1 + length vs) ≤ length l → storing (set l at v) at 1 vs ≡ put l at (v ∷ vs)
+stores l at v vs h =
+    let n = length-set l at v in
+    storing-put vs (set l at v) at 1 (omega arith) ∙ set-then l at v vs (omega arith)
+
+-- as many as there are bytes
+pub stores-all : (l : List ℕ) (v : ℕ) (vs : List ℕ) → 1 + length vs ≡ length l → storing (set l 0 v) 0 1 vs ≡ v ∷ vs
+stores-all l v vs e = stores l 0 v vs (omega arith) ∙ put-all l (v ∷ vs) (omega arith)
+
+pub low-byte : (n : ℕ) → n % 256 ≡ n / 1 % 256
+low-byte n = omega arith
 
 -- a turn of a loop that stores one element more
 pub put-more : (l : List ℕ) (at : ℕ) (us : List ℕ) (v : ℕ) → at + length us < length l → set (put l at us) (at + length us) v ≡ put l at (us ++ (v ∷ []))

@@ -54,7 +54,7 @@ item-not-done R p q = go (R .stands p)
     go false e = let z : _≡_ {A = ℕ} 0 1 = cc in omega arith
 
 -- whatever holds of a look in every case of the rules
-by-rules : (R : Judged) (Q : State → Look → Type 0) →
+pub by-rules : (R : Judged) (Q : State → Look → Type 0) →
     ((p k : ℕ) → keeps R p ≡ true → Q (locked p k) (record { gives = some (itemAt R p); goes = locked (p + R .period) 0 })) →
     ((p k : ℕ) → keeps R p ≡ false → k + 1 < R .limit → Q (locked p k) (record { gives = some (itemAt R p); goes = locked (p + R .period) (k + 1) })) →
     ((p k : ℕ) → keeps R p ≡ false → Q (locked p k) (record { gives = some (itemAt R p); goes = hunting (p + 1) (k + 1) })) →

@@ -1,6 +1,7 @@
 use native.Mathlib.Omega.{arith}
 use lib.ListN.{length-set}
-use Rattle.controller.proofs.Tables.{nine-stores}
+use mathlib.Core.List.{[], _∷_}
+use Rattle.frame.proofs.Stores.{stores}
 use borrow.Author.Needs.{needs}
 use Rattle.controller.proofs.put_first.Statement.{statement}
 use Rattle.controller.proofs.put_first.Tie as tie
@@ -21,7 +22,7 @@ slice-write-out-9 : tie.Need-slice-write-out-9
 slice-write-out-9 c = simp length-set (omega arith)
 
 returns : tie.Need-returns
-returns c = rw (← c .before .bit .ensures, ← c .bit2 .ensures) (nine-stores _ 0 _ _ _ _ _ _ _ _ _ (search needs))
+returns c = rw (← c .before .bit .ensures, ← c .bit2 .ensures) (stores _ 0 _ (_ ∷ _ ∷ _ ∷ _ ∷ _ ∷ _ ∷ _ ∷ _ ∷ []) (search needs))
 
 pub put-first-spec : {M : Type 1} → statement M
 put-first-spec =

@@ -1,6 +1,7 @@
 use native.Mathlib.Omega.{arith}
 use lib.ListN.{length-set}
-use Rattle.controller.proofs.Tables.{nine-stores}
+use mathlib.Core.List.{[], _∷_}
+use Rattle.frame.proofs.Stores.{stores}
 use borrow.Author.Needs.{needs}
 use Rattle.controller.proofs.put_second.Statement.{statement}
 use Rattle.controller.proofs.put_second.Tie as tie
@@ -24,7 +25,7 @@ same-length : tie.Need-same-length
 same-length c = simp length-set
 
 returns : tie.Need-returns
-returns c = rw (← c .before .sort .ensures, ← c .time .ensures) (nine-stores _ 9 _ _ _ _ _ _ _ _ _ (search needs))
+returns c = rw (← c .before .sort .ensures, ← c .time .ensures) (stores _ 9 _ (_ ∷ _ ∷ _ ∷ _ ∷ _ ∷ _ ∷ _ ∷ _ ∷ []) (search needs))
 
 pub put-second-spec : {M : Type 1} → statement M
 put-second-spec =

@@ -1,6 +1,7 @@
 use native.Mathlib.Omega.{arith}
 use lib.ListN.{length-set}
-use Rattle.controller.proofs.Tables.{six-stores}
+use mathlib.Core.List.{[], _∷_}
+use Rattle.frame.proofs.Stores.{stores}
 use borrow.Author.Needs.{needs}
 use Rattle.controller.proofs.put_stream.Statement.{statement}
 use Rattle.controller.proofs.put_stream.Tie as tie
@@ -24,7 +25,7 @@ same-length : tie.Need-same-length
 same-length c = simp length-set
 
 returns : tie.Need-returns
-returns c = six-stores _ _ _ _ _ _ _ _ (search needs)
+returns c = stores _ _ _ (_ ∷ _ ∷ _ ∷ _ ∷ _ ∷ []) (search needs)
 
 pub put-stream-spec : {M : Type 1} → statement M
 put-stream-spec =

@@ -1,6 +1,7 @@
 use native.Mathlib.Omega.{arith}
+use mathlib.Core.List.{[], _∷_}
 use lib.ListN.{length-set}
-use Rattle.frame.proofs.Stores.{put2-stores}
+use Rattle.frame.proofs.Stores.{stores, low-byte}
 use borrow.Author.Needs.{needs}
 use Rattle.writing.proofs.put2.Statement.{statement}
 use Rattle.writing.proofs.put2.Tie as tie
@@ -12,7 +13,7 @@ same-length : tie.Need-same-length
 same-length c = simp length-set
 
 returns : tie.Need-returns
-returns c = put2-stores _ _ _ (search needs)
+returns c = rw (low-byte (c .args .n)) (stores _ _ _ (_ ∷ []) (search needs))
 
 pub put2-spec : {M : Type 1} → statement M
 put2-spec =

@@ -1,6 +1,7 @@
 use native.Mathlib.Omega.{arith}
+use mathlib.Core.List.{[], _∷_}
 use lib.ListN.{length-set}
-use Rattle.frame.proofs.Stores.{put4-stores}
+use Rattle.frame.proofs.Stores.{stores, low-byte}
 use borrow.Author.Needs.{needs}
 use Rattle.writing.proofs.put4.Statement.{statement}
 use Rattle.writing.proofs.put4.Tie as tie
@@ -18,7 +19,7 @@ same-length : tie.Need-same-length
 same-length c = simp length-set
 
 returns : tie.Need-returns
-returns c = put4-stores _ _ _ (search needs)
+returns c = rw (low-byte (c .args .w)) (stores _ _ _ (_ ∷ _ ∷ _ ∷ []) (search needs))
 
 pub put4-spec : {M : Type 1} → statement M
 put4-spec =
