@@ -1,4 +1,4 @@
-/* Spindlewren: the single-frame reading for a transmitter's controller. docs/BOUNDARY.md has the layout. */
+/* Spindlewren: reading and following ETI frames, for a transmitter's controller. docs/BOUNDARY.md has the layouts. */
 #ifndef SPINDLEWREN_H
 #define SPINDLEWREN_H
 
@@ -9,32 +9,120 @@
 extern "C" {
 #endif
 
+/* Bytes of a frame, and of what is lent for an answer. */
 enum {
-    SPINDLEWREN_FRAME = 6144,  /* bytes of a frame */
-    SPINDLEWREN_ANSWER = 402,  /* bytes of an answer */
-    SPINDLEWREN_LEVEL = 0,     /* offsets into the answer */
-    SPINDLEWREN_FSYNC = 1,
+    SPINDLEWREN_FRAME = 6144,
+    SPINDLEWREN_ANSWER = 402, /* spindlewren_read */
+    SPINDLEWREN_PART = 4,     /* spindlewren_fic, spindlewren_stream */
+    SPINDLEWREN_WALK = 20     /* spindlewren_step */
+};
+
+/* What the answer of spindlewren_read has at which byte; one byte each where no number stands behind. */
+enum {
+    SPINDLEWREN_LEVEL = 0,
+    SPINDLEWREN_FSYNC1 = 1, /* 0 for 07 3A B6, 1 for F8 C5 49 */
     SPINDLEWREN_FCT = 2,
     SPINDLEWREN_FICF = 3,
     SPINDLEWREN_NST = 4,
     SPINDLEWREN_FP = 5,
     SPINDLEWREN_MID = 6,
-    SPINDLEWREN_FL = 7,        /* two bytes */
-    SPINDLEWREN_MNSC = 9,      /* two bytes */
-    SPINDLEWREN_RFU = 11,      /* two bytes */
+    SPINDLEWREN_FL = 7,     /* 2 */
+    SPINDLEWREN_MNSC = 9,   /* 2 */
+    SPINDLEWREN_RFU = 11,   /* 2 */
     SPINDLEWREN_RFA = 13,
-    SPINDLEWREN_SORT = 14,     /* 0 no timestamp is given, 1 a time */
-    SPINDLEWREN_TIME = 15,     /* three bytes */
-    SPINDLEWREN_TABLE = 18,    /* 64 entries of */
-    SPINDLEWREN_ENTRY = 6      /* bytes: SCID, SAD (two), TPL, STL (two) */
+    SPINDLEWREN_SORT = 14,  /* 0 no timestamp is given, 1 a time */
+    SPINDLEWREN_TIME = 15,  /* 3 */
+    SPINDLEWREN_TABLE = 18, /* 64 entries of */
+    SPINDLEWREN_ENTRY = 6   /* bytes */
 };
 
-/* The refusal number, 0 for accepted; refused, not one answer byte is written. */
-uint8_t spindlewren_read(const uint8_t *frame, size_t frame_len, uint8_t *answer, size_t answer_len);
+/* What an entry of the table has at which of its bytes. */
+enum {
+    SPINDLEWREN_SCID = 0,
+    SPINDLEWREN_SAD = 1, /* 2 */
+    SPINDLEWREN_TPL = 3,
+    SPINDLEWREN_STL = 4  /* 2 */
+};
 
-/* A number of two bytes in an answer. */
-static inline unsigned spindlewren_two(const uint8_t *answer, size_t at) {
-    return (unsigned)answer[at] << 8 | answer[at + 1];
+/* What a part has: its place, counted from the frame's byte 0, and its length. */
+enum {
+    SPINDLEWREN_START = 0, /* 2 */
+    SPINDLEWREN_LEN = 2    /* 2 */
+};
+
+/* What a walk has: its state, which is all zero at the beginning of a record, and behind it the step's item. */
+enum {
+    SPINDLEWREN_PLACE = 0,   /* 8 */
+    SPINDLEWREN_MISSES = 8,
+    SPINDLEWREN_LOCK = 9,
+    SPINDLEWREN_KIND = 10,
+    SPINDLEWREN_LOST = 11,   /* the refusal number of a lost mark, else 0 */
+    SPINDLEWREN_ITEM = 12    /* 8: the item's place */
+};
+
+/* The kinds of item. */
+enum {
+    SPINDLEWREN_IS_FRAME = 0,
+    SPINDLEWREN_IS_LOST = 1,
+    SPINDLEWREN_IS_DONE = 2
+};
+
+/* The refusal numbers. 11 belongs to writing alone. */
+enum {
+    SPINDLEWREN_ACCEPTED = 0,
+    SPINDLEWREN_LENGTH = 1,         /* the frame or the answer has another length */
+    SPINDLEWREN_SYNC = 2,           /* the sync word is neither of the two */
+    SPINDLEWREN_STATUS = 3,         /* the status byte is none of the four */
+    SPINDLEWREN_NULL = 4,           /* null transmission */
+    SPINDLEWREN_NST_ABOVE = 5,      /* NST above 64 */
+    SPINDLEWREN_HEADER_SUM = 6,     /* header sum wrong */
+    SPINDLEWREN_FCT_ABOVE = 7,      /* FCT above 249 */
+    SPINDLEWREN_STL_ABOVE = 8,      /* some STL above 684 */
+    SPINDLEWREN_FL_DIFFERS = 9,     /* FL differs from the formula */
+    SPINDLEWREN_FL_ABOVE = 10,      /* FL above 1,532 */
+    SPINDLEWREN_TOO_WIDE = 12,      /* a value wider than its field: a lock byte above 1 */
+    SPINDLEWREN_NO_SUCH_STREAM = 13 /* stream index not below NST */
+};
+
+/* Each returns the refusal number, 0 for accepted; refused, not one byte is written. */
+uint8_t spindlewren_read(const uint8_t *frame, size_t frame_len, uint8_t *answer, size_t answer_len);
+uint8_t spindlewren_fic(const uint8_t *frame, size_t frame_len, uint8_t *part, size_t part_len);
+uint8_t spindlewren_stream(const uint8_t *frame, size_t frame_len, size_t i, uint8_t *part, size_t part_len);
+
+/* One step of a walk over a record: the walk's bytes then hold the advanced state and its item. */
+uint8_t spindlewren_step(const uint8_t *record, size_t record_len, uint8_t *walk, size_t walk_len);
+
+/* The number in `width` bytes from `at` on, high byte first. */
+static inline uint64_t spindlewren_number(const uint8_t *bytes, size_t at, size_t width) {
+    uint64_t n = 0;
+    size_t i;
+    for (i = 0; i < width; i++) n = n << 8 | bytes[at + i];
+    return n;
+}
+
+/* Where entry i of the table begins in an answer. */
+static inline size_t spindlewren_entry(size_t i) {
+    return SPINDLEWREN_TABLE + SPINDLEWREN_ENTRY * i;
+}
+
+/* A refusal number in words. */
+static inline const char *spindlewren_label(uint8_t number) {
+    switch (number) {
+    case SPINDLEWREN_ACCEPTED: return "accepted";
+    case SPINDLEWREN_LENGTH: return "wrong length";
+    case SPINDLEWREN_SYNC: return "sync word is neither of the two";
+    case SPINDLEWREN_STATUS: return "status byte is none of the four";
+    case SPINDLEWREN_NULL: return "null transmission";
+    case SPINDLEWREN_NST_ABOVE: return "NST above 64";
+    case SPINDLEWREN_HEADER_SUM: return "header sum wrong";
+    case SPINDLEWREN_FCT_ABOVE: return "FCT above 249";
+    case SPINDLEWREN_STL_ABOVE: return "some STL above 684";
+    case SPINDLEWREN_FL_DIFFERS: return "FL differs from the formula";
+    case SPINDLEWREN_FL_ABOVE: return "FL above 1,532";
+    case SPINDLEWREN_TOO_WIDE: return "a value wider than its field";
+    case SPINDLEWREN_NO_SUCH_STREAM: return "stream index not below NST";
+    default: return "no such number";
+    }
 }
 
 #ifdef __cplusplus

@@ -1,12 +1,13 @@
-/* The exported reading against answers that an independent program worked out, and against every wrong length. */
+/* The exports against answers that an independent program worked out, against every wrong length, and with guards around all that is lent. */
 #include "spindlewren.h"
 
 #include <stdio.h>
 #include <stdlib.h>
 #include <string.h>
 
-enum { GUARD = 64, MOST = 2 * SPINDLEWREN_ANSWER };
+enum { GUARD = 64, MOST = 2 * SPINDLEWREN_ANSWER, FILL = 0xA5, LONGEST = 6200 };
 static int bad = 0;
+static unsigned long calls = 0;
 
 static void hold(int right, const char *what, size_t at) {
     if (!right) {
@@ -15,9 +16,9 @@ static void hold(int right, const char *what, size_t at) {
     }
 }
 
-static unsigned char *load(const char *name, size_t *len) {
+static uint8_t *load(const char *name, size_t *len) {
     FILE *f = fopen(name, "rb");
-    unsigned char *bytes = malloc(1 << 20);
+    uint8_t *bytes = malloc(1 << 20);
     if (f == NULL || bytes == NULL) {
         printf("boundary: cannot read %s\n", name);
         exit(2);
@@ -27,45 +28,175 @@ static unsigned char *load(const char *name, size_t *len) {
     return bytes;
 }
 
-/* Reads into len answer bytes with guards on both sides. */
-static unsigned read_guarded(const uint8_t *frame, size_t frame_len, uint8_t *answer, size_t len, size_t at) {
+/* The four exports, as one sort of request: bytes, an index, and bytes for the answer. */
+typedef unsigned request(const uint8_t *bytes, size_t len, size_t i, uint8_t *out, size_t out_len);
+
+static unsigned read_frame(const uint8_t *bytes, size_t len, size_t i, uint8_t *out, size_t out_len) {
+    (void)i;
+    return spindlewren_read(bytes, len, out, out_len);
+}
+static unsigned fic(const uint8_t *bytes, size_t len, size_t i, uint8_t *out, size_t out_len) {
+    (void)i;
+    return spindlewren_fic(bytes, len, out, out_len);
+}
+static unsigned stream(const uint8_t *bytes, size_t len, size_t i, uint8_t *out, size_t out_len) {
+    return spindlewren_stream(bytes, len, i, out, out_len);
+}
+static unsigned step(const uint8_t *bytes, size_t len, size_t i, uint8_t *out, size_t out_len) {
+    (void)i;
+    return spindlewren_step(bytes, len, out, out_len);
+}
+
+/* Makes the request with guards on both sides of the out bytes, which are untouched on a refusal. */
+static unsigned guarded(request *ask, const uint8_t *bytes, size_t len, size_t i, uint8_t *out, size_t out_len) {
     static uint8_t room[GUARD + MOST + GUARD], before[sizeof room];
     unsigned number;
-    memset(room, 0xA5, sizeof room);
+    memset(room, FILL, sizeof room);
+    memcpy(room + GUARD, out, out_len);
     memcpy(before, room, sizeof room);
-    number = spindlewren_read(frame, frame_len, room + GUARD, len);
-    hold(memcmp(room, before, GUARD) == 0, "guard before", at);
-    hold(memcmp(room + GUARD + len, before + GUARD + len, sizeof room - GUARD - len) == 0, "guard behind", at);
-    if (number != 0) hold(memcmp(room, before, sizeof room) == 0, "answer written on a refusal", at);
-    if (answer != NULL) memcpy(answer, room + GUARD, SPINDLEWREN_ANSWER);
+    number = ask(bytes, len, i, room + GUARD, out_len);
+    hold(memcmp(room, before, GUARD) == 0, "guard before", out_len);
+    hold(memcmp(room + GUARD + out_len, before + GUARD + out_len, sizeof room - GUARD - out_len) == 0, "guard behind", out_len);
+    if (number != 0) hold(memcmp(room, before, sizeof room) == 0, "written on a refusal", out_len);
+    memcpy(out, room + GUARD, out_len);
+    calls++;
     return number;
 }
 
-int main(void) {
+/* Every length of answer up to twice the right one, and every length of frame; only the right ones are accepted. */
+static void lengths(request *ask, const uint8_t *frame, size_t right) {
+    static uint8_t out[MOST];
+    size_t n;
+    for (n = 0; n <= 2 * right; n++) {
+        memset(out, 0, sizeof out);
+        hold(guarded(ask, frame, SPINDLEWREN_FRAME, 0, out, n) == (n == right ? 0U : 1U), "answer length", n);
+    }
+    for (n = 0; n <= LONGEST; n++) {
+        memset(out, 0, sizeof out);
+        hold(guarded(ask, frame, n, 0, out, right) == (n == SPINDLEWREN_FRAME || ask == step ? 0U : 1U), "frame length", n);
+    }
+}
+
+static void part_at(request *ask, const uint8_t *frame, size_t i, size_t start, size_t len) {
+    uint8_t part[SPINDLEWREN_PART];
+    memset(part, FILL, sizeof part);
+    hold(guarded(ask, frame, SPINDLEWREN_FRAME, i, part, sizeof part) == 0, "part", i);
+    hold(spindlewren_number(part, SPINDLEWREN_START, 2) == start, "part's place", i);
+    hold(spindlewren_number(part, SPINDLEWREN_LEN, 2) == len, "part's length", i);
+}
+
+/* The parts of a frame whose answer is known: FIC and streams tile the main stream. */
+static void parts(const uint8_t *frame, const uint8_t *answer) {
+    static const size_t beyond[] = {0, 1, 63, 64, 191, (size_t)-1};
+    uint8_t part[SPINDLEWREN_PART] = {FILL, FILL, FILL, FILL};
+    size_t nst = answer[SPINDLEWREN_NST], i;
+    size_t at = 4 + (nst + 2) * 4, len = answer[SPINDLEWREN_FICF] == 0 ? 0 : answer[SPINDLEWREN_MID] == 3 ? 128 : 96;
+    part_at(fic, frame, 0, at, len);
+    for (i = 0; i < nst; i++) {
+        at += len;
+        len = 8 * (size_t)spindlewren_number(answer, spindlewren_entry(i) + SPINDLEWREN_STL, 2);
+        part_at(stream, frame, i, at, len);
+    }
+    for (i = 0; i < sizeof beyond / sizeof *beyond; i++)
+        hold(guarded(stream, frame, SPINDLEWREN_FRAME, beyond[i] == (size_t)-1 ? beyond[i] : nst + beyond[i], part, sizeof part) == 13, "stream beyond", i);
+}
+
+/* The frames of the samples, each held to its answer of answers.bin. */
+static void frames(const uint8_t *four, const uint8_t *damaged) {
     static const size_t four_at[] = {0, 6144, 18432}, damaged_at[] = {777, 6921, 13165, 19309, 25453, 31597};
-    size_t four_len, damaged_len, answers_len, i, n = 0;
     uint8_t answer[SPINDLEWREN_ANSWER];
-    uint8_t *four = load("samples/four.eti", &four_len);
-    uint8_t *damaged = load("samples/damaged.eti", &damaged_len);
+    size_t answers_len, i;
     uint8_t *answers = load("tests/boundary/answers.bin", &answers_len);
-    uint8_t *megabyte = calloc(1 << 20, 1);
     hold(answers_len == 9 * SPINDLEWREN_ANSWER, "answers", answers_len);
     for (i = 0; i < 9; i++) {
         const uint8_t *frame = i < 3 ? four + four_at[i] : damaged + damaged_at[i - 3];
-        hold(read_guarded(frame, SPINDLEWREN_FRAME, answer, SPINDLEWREN_ANSWER, i) == 0, "accepted", i);
-        hold(memcmp(answer, answers + i * SPINDLEWREN_ANSWER, SPINDLEWREN_ANSWER) == 0, "answer", i);
-        n += 2;
+        const uint8_t *expected = answers + i * SPINDLEWREN_ANSWER;
+        memset(answer, FILL, sizeof answer);
+        hold(guarded(read_frame, frame, SPINDLEWREN_FRAME, 0, answer, sizeof answer) == 0, "accepted", i);
+        hold(memcmp(answer, expected, sizeof answer) == 0, "answer", i);
+        parts(frame, expected);
     }
-    hold(read_guarded(four + 12288, SPINDLEWREN_FRAME, NULL, SPINDLEWREN_ANSWER, 12288) == 2, "broken sync word", 12288);
-    for (i = 0; i <= MOST; i++, n++)
-        hold((read_guarded(four, SPINDLEWREN_FRAME, NULL, i, i) == 0) == (i == SPINDLEWREN_ANSWER), "answer length", i);
-    for (i = 0; i <= 6200; i++, n++)
-        hold((read_guarded(four, i, NULL, SPINDLEWREN_ANSWER, i) == 0) == (i == SPINDLEWREN_FRAME), "frame length", i);
-    hold(read_guarded(megabyte, 1 << 20, NULL, SPINDLEWREN_ANSWER, 1 << 20) == 1, "a megabyte", 1 << 20);
+    free(answers);
+}
+
+/* A walk's line as the listing has it. */
+static void line(const uint8_t *record, const uint8_t *walk, char *text, size_t size) {
+    unsigned long place = (unsigned long)spindlewren_number(walk, SPINDLEWREN_ITEM, 8);
+    uint8_t answer[SPINDLEWREN_ANSWER];
+    if (walk[SPINDLEWREN_KIND] == SPINDLEWREN_IS_DONE) {
+        snprintf(text, size, "end %lu\n", place);
+    } else if (walk[SPINDLEWREN_KIND] == SPINDLEWREN_IS_LOST) {
+        snprintf(text, size, "%lu lost %u -\n", place, walk[SPINDLEWREN_LOST]);
+    } else {
+        hold(spindlewren_read(record + place, SPINDLEWREN_FRAME, answer, sizeof answer) == 0, "frame handed out", place);
+        snprintf(text, size, "%lu frame %u %u\n", place, answer[SPINDLEWREN_FCT], answer[SPINDLEWREN_LEVEL]);
+    }
+}
+
+/* A walk over a record, held to the listing that tests/listing has of it, and then done once more. */
+static void walked(const uint8_t *record, size_t len, const char *listing) {
+    uint8_t walk[SPINDLEWREN_WALK] = {0}, again[SPINDLEWREN_WALK];
+    char text[80], expected[80];
+    FILE *lines = fopen(listing, "r");
+    hold(lines != NULL && fgets(expected, sizeof expected, lines) != NULL, listing, 0);
+    while (lines != NULL && fgets(expected, sizeof expected, lines) != NULL) {
+        memset(walk + SPINDLEWREN_KIND, FILL, SPINDLEWREN_WALK - SPINDLEWREN_KIND);
+        hold(guarded(step, record, len, 0, walk, sizeof walk) == 0, "step", 0);
+        line(record, walk, text, sizeof text);
+        hold(strcmp(text, expected) == 0, text, 0);
+    }
+    hold(walk[SPINDLEWREN_KIND] == SPINDLEWREN_IS_DONE, "done", len);
+    memcpy(again, walk, sizeof walk);
+    hold(guarded(step, record, len, 0, again, sizeof again) == 0 && memcmp(again, walk, sizeof walk) == 0, "done stays done", len);
+    if (lines != NULL) fclose(lines);
+}
+
+/* A state that cannot be: refused, or done at its own place with nothing changed. */
+static void states(const uint8_t *record, size_t len) {
+    uint8_t walk[SPINDLEWREN_WALK], before[SPINDLEWREN_WALK];
+    unsigned n;
+    for (n = 0; n < 256; n++) {
+        memset(walk, 0, sizeof walk);
+        walk[SPINDLEWREN_LOCK] = (uint8_t)n;
+        hold(guarded(step, record, len, 0, walk, sizeof walk) == (n < 2 ? 0U : 12U), "lock", n);
+        memset(walk, 0, sizeof walk);
+        walk[SPINDLEWREN_MISSES] = (uint8_t)n;
+        walk[SPINDLEWREN_LOCK] = 1;
+        hold(guarded(step, record, len, 0, walk, sizeof walk) == 0, "misses", n);
+        hold(walk[SPINDLEWREN_KIND] == (n < 3 ? SPINDLEWREN_IS_FRAME : SPINDLEWREN_IS_DONE), "misses", n);
+        memset(walk, FILL, sizeof walk);
+        walk[SPINDLEWREN_PLACE] = (uint8_t)n;
+        walk[SPINDLEWREN_LOCK] = n & 1;
+        memcpy(before, walk, sizeof walk);
+        hold(guarded(step, record, len, 0, walk, sizeof walk) == 0, "far place", n);
+        hold(memcmp(walk, before, SPINDLEWREN_KIND) == 0 && memcmp(walk + SPINDLEWREN_ITEM, before, 8) == 0, "far place", n);
+    }
+}
+
+int main(void) {
+    size_t four_len, damaged_len, noise_len;
+    uint8_t answer[SPINDLEWREN_ANSWER];
+    uint8_t *four = load("samples/four.eti", &four_len);
+    uint8_t *damaged = load("samples/damaged.eti", &damaged_len);
+    uint8_t *noise = load("samples/noise.eti", &noise_len);
+    uint8_t *megabyte = calloc(1 << 20, 1);
+    memset(answer, FILL, sizeof answer);
+    frames(four, damaged);
+    hold(guarded(read_frame, four + 12288, SPINDLEWREN_FRAME, 0, answer, sizeof answer) == 2, "broken sync word", 12288);
+    hold(guarded(read_frame, megabyte, 1 << 20, 0, answer, sizeof answer) == 1, "a megabyte", 1 << 20);
+    lengths(read_frame, four, SPINDLEWREN_ANSWER);
+    lengths(fic, four, SPINDLEWREN_PART);
+    lengths(stream, four, SPINDLEWREN_PART);
+    lengths(step, four, SPINDLEWREN_WALK);
+    walked(four, four_len, "tests/listing/four.out");
+    walked(damaged, damaged_len, "tests/listing/damaged.out");
+    walked(noise, noise_len, "tests/listing/noise.out");
+    walked(four, 0, "tests/listing/empty.out");
+    states(four, four_len);
     free(four);
     free(damaged);
-    free(answers);
+    free(noise);
     free(megabyte);
-    printf("boundary: %lu calls, %s\n", (unsigned long)n + 2, bad ? "FAILED" : "ok");
+    printf("boundary: %lu calls, %s\n", calls, bad ? "FAILED" : "ok");
     return bad;
 }

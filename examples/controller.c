@@ -1,0 +1,101 @@
+/* Walks a record: a line for each frame and lost mark, and the sub-channels of the first frame. */
+#define _POSIX_C_SOURCE 200809L
+#include "spindlewren.h"
+
+#include <errno.h>
+#include <fcntl.h>
+#include <stdio.h>
+#include <stdlib.h>
+#include <string.h>
+#include <sys/mman.h>
+#include <sys/stat.h>
+#include <unistd.h>
+
+enum { BAD_USE = 2 };
+
+struct record {
+    const uint8_t *bytes;
+    size_t len;
+};
+
+static void fail(const char *name, const char *why) {
+    fprintf(stderr, "controller: %s: %s\n", name, why);
+    exit(EXIT_FAILURE);
+}
+
+/* The whole file, mapped, so that its size does not matter. */
+static struct record map(const char *name) {
+    static const uint8_t none;
+    struct record record = {&none, 0};
+    struct stat about;
+    void *bytes;
+    int file = open(name, O_RDONLY);
+    if (file < 0 || fstat(file, &about) != 0) fail(name, strerror(errno));
+    if (!S_ISREG(about.st_mode)) fail(name, "not a regular file");
+    if (about.st_size > 0) {
+        bytes = mmap(NULL, (size_t)about.st_size, PROT_READ, MAP_PRIVATE, file, 0);
+        if (bytes == MAP_FAILED) fail(name, strerror(errno));
+        record.bytes = bytes;
+        record.len = (size_t)about.st_size;
+    }
+    close(file);
+    return record;
+}
+
+static void part_line(const char *what, const uint8_t *part) {
+    unsigned start = (unsigned)spindlewren_number(part, SPINDLEWREN_START, 2);
+    unsigned len = (unsigned)spindlewren_number(part, SPINDLEWREN_LEN, 2);
+    printf("  %s: %u bytes from byte %u on\n", what, len, start);
+}
+
+static void sub_channels(const uint8_t *frame, uint64_t place) {
+    uint8_t answer[SPINDLEWREN_ANSWER], part[SPINDLEWREN_PART];
+    char what[96];
+    size_t i;
+    if (spindlewren_read(frame, SPINDLEWREN_FRAME, answer, sizeof answer) != 0) return;
+    printf("first frame, at %llu, sub-channels: %u\n", (unsigned long long)place, answer[SPINDLEWREN_NST]);
+    if (spindlewren_fic(frame, SPINDLEWREN_FRAME, part, sizeof part) == 0) part_line("FIC", part);
+    for (i = 0; spindlewren_stream(frame, SPINDLEWREN_FRAME, i, part, sizeof part) == 0; i++) {
+        const uint8_t *entry = answer + spindlewren_entry(i);
+        snprintf(what, sizeof what, "SCID %u, SAD %u, TPL %u, STL %u", entry[SPINDLEWREN_SCID],
+                 (unsigned)spindlewren_number(entry, SPINDLEWREN_SAD, 2), entry[SPINDLEWREN_TPL],
+                 (unsigned)spindlewren_number(entry, SPINDLEWREN_STL, 2));
+        part_line(what, part);
+    }
+}
+
+static void item_line(struct record record, const uint8_t *walk) {
+    uint8_t answer[SPINDLEWREN_ANSWER];
+    uint64_t place = spindlewren_number(walk, SPINDLEWREN_ITEM, 8);
+    unsigned lost = walk[SPINDLEWREN_LOST];
+    if (walk[SPINDLEWREN_KIND] == SPINDLEWREN_IS_DONE)
+        printf("end %llu\n", (unsigned long long)place);
+    else if (walk[SPINDLEWREN_KIND] == SPINDLEWREN_IS_LOST)
+        printf("%llu lost %u - %s\n", (unsigned long long)place, lost, spindlewren_label((uint8_t)lost));
+    else if (spindlewren_read(record.bytes + place, SPINDLEWREN_FRAME, answer, sizeof answer) == 0)
+        printf("%llu frame %u %u\n", (unsigned long long)place, answer[SPINDLEWREN_FCT], answer[SPINDLEWREN_LEVEL]);
+}
+
+int main(int argc, char **argv) {
+    uint8_t walk[SPINDLEWREN_WALK] = {0};
+    const uint8_t *first = NULL;
+    uint64_t first_place = 0;
+    struct record record;
+    if (argc != 2) {
+        fprintf(stderr, "usage: controller RECORD\n");
+        return BAD_USE;
+    }
+    record = map(argv[1]);
+    puts("place kind code level");
+    do {
+        uint8_t refusal = spindlewren_step(record.bytes, record.len, walk, sizeof walk);
+        if (refusal != 0) fail(argv[1], spindlewren_label(refusal));
+        item_line(record, walk);
+        if (first == NULL && walk[SPINDLEWREN_KIND] == SPINDLEWREN_IS_FRAME) {
+            first_place = spindlewren_number(walk, SPINDLEWREN_ITEM, 8);
+            first = record.bytes + first_place;
+        }
+    } while (walk[SPINDLEWREN_KIND] != SPINDLEWREN_IS_DONE);
+    if (first != NULL) sub_channels(first, first_place);
+    return EXIT_SUCCESS;
+}
