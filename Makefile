@@ -1,6 +1,9 @@
-# make run: lists a record, samples/four.eti or RECORD=file. make example: the same from C. make test: the gate. make rows: the bench figures.
-.PHONY: run rows example test
+# make run: lists a record, samples/four.eti or RECORD=file. make example: the same from C. make test: the gate.
+# make rows: the bench figures. make soak: the comparison with the Rust implementation for SECONDS, from SEED on. make bench: times.
+.PHONY: run rows example soak bench test
 RECORD = samples/four.eti
+SECONDS = 600
+SEED = $(shell date +%s)
 
 run:
 	@tools/run listing <$(RECORD)
@@ -14,6 +17,12 @@ example: target/example/controller
 target/example/controller: examples/controller.c include/spindlewren.h $(shell find crates crates.txt -type f)
 	@mkdir -p target/example
 	@$(CC) -std=c99 -O2 -Wall -Wextra -Wpedantic -Werror -Iinclude examples/controller.c "$$(tools/archive controller)" -o $@
+
+soak:
+	@tests/independent/run --seed $(SEED) --seconds $(SECONDS)
+
+bench:
+	@bench/run
 
 test:
 	@.ci/run

@@ -387,7 +387,8 @@ fn stream_at(frame: &[u8], i: usize) -> Stream
     }
 }
 
-fn no_streams() -> [Stream; 64]
+// The table of no entries.
+pub fn no_streams() -> [Stream; 64]
     ensures { λ r. ⌜ r ≡ tableBy [] ⌝ }
 {
     [Stream {

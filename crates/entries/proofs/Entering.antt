@@ -1,0 +1,28 @@
+-- The entries' bytes, one entry more at a time, and the two outcomes of writing from bytes.
+-- Assumes nothing.
+use mathlib.Core.List.{List, [], _∷_, _++_}
+use mathlib.Core.Path.{_≡_, refl, ap, _∙_}
+use Prim.Native.Nat.{ℕ, zero, suc, _+_}
+use native.Mathlib.Numerals.{add-one}
+use borrow.Author.Tests.{eq-eqb, ne-eqb}
+use lib.ListN.{length, length-append}
+use Rattle.frame.specs.Writing.{Writes}
+use Rattle.entries.specs.Entered.{entryIn, entriesTo, fieldsIn, Entered}
+
+pub entries-more : (b : List ℕ) (n : ℕ) → entriesTo b (n + 1) ≡ entriesTo b n ++ (entryIn b n ∷ [])
+unfolding entriesTo
+entries-more b n = ap (entriesTo b) (add-one n)
+
+pub entries-length : (b : List ℕ) (n : ℕ) → length (entriesTo b n) ≡ n
+unfolding entriesTo
+entries-length b zero = refl
+entries-length b (suc n) = rw (length-append, entries-length b n) (add-one n)
+
+module _ (b main before : List ℕ) where
+  pub wrong-length : (length b ≡ 401 → ⊥) → Entered b main before before 1
+  wrong-length h = let y = ne-eqb (length b) 401 h in record { number = rw y; output = rw y }
+
+  pub entered : length b ≡ 401 → (after : List ℕ) (r : ℕ) → Writes (fieldsIn b) main before after r → Entered b main before after r
+  entered h after r w =
+      let y = eq-eqb (length b) 401 h in
+      record { number = w .number ∙ (rw y); output = w .output ∙ (rw y) }

@@ -1,0 +1,34 @@
+use native.Mathlib.Omega.{arith}
+use Rattle.entries.specs.Entered.{fieldsIn}
+use borrow.Author.Needs.{needs}
+use Rattle.entries.proofs.fields.Statement.{statement}
+use Rattle.entries.proofs.fields.Tie as tie
+
+cast-t26 : tie.Need-cast-t26
+cast-t26 c = omega (arith, c .shared-slice-known10 .given 4)
+
+returns : tie.Need-returns
+unfolding fieldsIn
+returns c =
+    rw (← c .before .before .before .before .before .before .before .before .before .before .before .before .four .ensures, ← c .before .before .before .before .before .before .before .before .before .before .before .timestamp .ensures, ← c .before .before .before .before .before .before .before .before .before .before .table .ensures, ← c .before .before .before .two .ensures, ← c .before .before .two2 .ensures)
+
+pub fields-spec : {M : Type 1} → statement M
+fields-spec =
+    tie.close
+    (tie.spec
+    (λ c. search needs)
+    (λ c κs. search needs)
+    (λ c κs. search needs)
+    (λ c κs. search needs)
+    (λ c. search needs)
+    (λ c. search needs)
+    (λ c. search needs)
+    (λ c. search needs)
+    (λ c. search needs)
+    (λ c. search needs)
+    (λ c κs. search needs)
+    (λ c κs. search needs)
+    (λ c. search needs)
+    (λ c. search needs)
+    cast-t26
+    returns)

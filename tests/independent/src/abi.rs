@@ -1,0 +1,215 @@
+//! The proved exports, called as C calls them, and the bytes they take and give.
+
+use crate::frame::{Reading, Stream, Table, Timestamp, NO_TIME};
+use crate::walk::{Item, State};
+use crate::writing::Fields;
+
+pub const ANSWER: usize = 402;
+pub const PART: usize = 4;
+pub const WALK: usize = 20;
+pub const FIELDS: usize = 401;
+
+/// The kinds of item.
+pub const FRAME_ITEM: u8 = 0;
+pub const LOST_ITEM: u8 = 1;
+pub const DONE_ITEM: u8 = 2;
+
+#[link(name = "controller", kind = "static")]
+#[link(name = "entries", kind = "static")]
+extern "C" {
+    fn spindlewren_read(
+        frame: *const u8,
+        frame_len: usize,
+        answer: *mut u8,
+        answer_len: usize,
+    ) -> u8;
+    fn spindlewren_fic(
+        frame: *const u8,
+        frame_len: usize,
+        answer: *mut u8,
+        answer_len: usize,
+    ) -> u8;
+    fn spindlewren_stream(
+        frame: *const u8,
+        frame_len: usize,
+        index: usize,
+        answer: *mut u8,
+        answer_len: usize,
+    ) -> u8;
+    fn spindlewren_step(record: *const u8, record_len: usize, walk: *mut u8, walk_len: usize)
+        -> u8;
+    fn spindlewren_sum(bytes: *const u8, bytes_len: usize) -> u16;
+    fn spindlewren_write(
+        fields: *const u8,
+        fields_len: usize,
+        main: *const u8,
+        main_len: usize,
+        out: *mut u8,
+        out_len: usize,
+    ) -> u8;
+}
+
+// SAFETY, for each call below: pointer and length are of one slice, and a mutable slice overlaps no other.
+
+pub fn read(frame: &[u8], answer: &mut [u8]) -> u8 {
+    unsafe {
+        spindlewren_read(
+            frame.as_ptr(),
+            frame.len(),
+            answer.as_mut_ptr(),
+            answer.len(),
+        )
+    }
+}
+
+pub fn fic(frame: &[u8], answer: &mut [u8]) -> u8 {
+    unsafe {
+        spindlewren_fic(
+            frame.as_ptr(),
+            frame.len(),
+            answer.as_mut_ptr(),
+            answer.len(),
+        )
+    }
+}
+
+pub fn stream(frame: &[u8], index: usize, answer: &mut [u8]) -> u8 {
+    unsafe {
+        spindlewren_stream(
+            frame.as_ptr(),
+            frame.len(),
+            index,
+            answer.as_mut_ptr(),
+            answer.len(),
+        )
+    }
+}
+
+pub fn step(record: &[u8], walk: &mut [u8]) -> u8 {
+    unsafe { spindlewren_step(record.as_ptr(), record.len(), walk.as_mut_ptr(), walk.len()) }
+}
+
+pub fn sum(bytes: &[u8]) -> u16 {
+    unsafe { spindlewren_sum(bytes.as_ptr(), bytes.len()) }
+}
+
+pub fn write(fields: &[u8], main: &[u8], out: &mut [u8]) -> u8 {
+    unsafe {
+        spindlewren_write(
+            fields.as_ptr(),
+            fields.len(),
+            main.as_ptr(),
+            main.len(),
+            out.as_mut_ptr(),
+            out.len(),
+        )
+    }
+}
+
+pub fn answer_bytes(reading: &Reading) -> Vec<u8> {
+    let header = &reading.header;
+    let mut bytes = vec![
+        header.level,
+        u8::from(header.fsync1),
+        header.fct,
+        u8::from(header.ficf),
+        header.nst,
+        header.fp,
+        header.mid,
+    ];
+    put(&mut bytes, &[header.fl, header.mnsc, header.rfu]);
+    let (sort, number) = timestamp(header.timestamp);
+    bytes.extend([header.rfa, sort]);
+    bytes.extend(&number.to_be_bytes()[1..]);
+    put_table(&mut bytes, &reading.table);
+    bytes
+}
+
+pub fn fields_bytes(fields: &Fields) -> Vec<u8> {
+    let mut bytes = vec![
+        fields.level,
+        u8::from(fields.fsync1),
+        fields.fct,
+        u8::from(fields.ficf),
+        fields.nst,
+        fields.fp,
+        fields.mid,
+    ];
+    put(&mut bytes, &[fields.mnsc, fields.rfu]);
+    let (sort, number) = timestamp(fields.timestamp);
+    bytes.extend([fields.rfa, sort]);
+    bytes.extend(number.to_be_bytes());
+    put_table(&mut bytes, &fields.table);
+    bytes
+}
+
+/// The fields that an answer gives: all but FL, and the timestamp's number in four bytes.
+pub fn fields_of_answer(answer: &[u8]) -> Vec<u8> {
+    [&answer[..7], &answer[9..15], &[0], &answer[15..]].concat()
+}
+
+/// Place and length of a part.
+pub fn part_bytes(part: std::ops::Range<usize>) -> Vec<u8> {
+    let mut bytes = Vec::new();
+    put(&mut bytes, &[part.start as u16, part.len() as u16]);
+    bytes
+}
+
+pub fn state_bytes(state: State) -> Vec<u8> {
+    let mut bytes = (state.place as u64).to_be_bytes().to_vec();
+    bytes.extend([state.misses as u8, u8::from(state.lock)]);
+    bytes
+}
+
+pub fn walk_bytes(item: &Item, state: State) -> Vec<u8> {
+    let (kind, number, place) = match item {
+        Item::Frame(place, _) => (FRAME_ITEM, 0, *place),
+        Item::Lost(place, number) => (LOST_ITEM, *number, *place),
+        Item::Done(place) => (DONE_ITEM, 0, *place),
+    };
+    let mut bytes = state_bytes(state);
+    bytes.extend([kind, number]);
+    bytes.extend((place as u64).to_be_bytes());
+    bytes
+}
+
+/// A step's own state, from the first ten of its bytes.
+pub fn state_of(walk: &[u8]) -> State {
+    State {
+        place: place_of(&walk[..8]),
+        misses: usize::from(walk[8]),
+        lock: walk[9] == 1,
+    }
+}
+
+pub fn place_of(bytes: &[u8]) -> usize {
+    bytes
+        .iter()
+        .fold(0, |place, &byte| place << 8 | usize::from(byte))
+}
+
+fn timestamp(timestamp: Timestamp) -> (u8, u32) {
+    match timestamp {
+        Timestamp::None => (0, NO_TIME),
+        Timestamp::Time(number) => (1, number),
+    }
+}
+
+fn put_table(bytes: &mut Vec<u8>, table: &Table) {
+    for &Stream {
+        scid,
+        sad,
+        tpl,
+        stl,
+    } in table
+    {
+        bytes.push(scid);
+        put(bytes, &[sad]);
+        bytes.push(tpl);
+        put(bytes, &[stl]);
+    }
+}
+
+fn put(bytes: &mut Vec<u8>, numbers: &[u16]) {
+    bytes.extend(numbers.iter().flat_map(|number| number.to_be_bytes()));
+}

@@ -1,0 +1,145 @@
+//! Compares the proved exports with the independent implementation on seeded cases.
+
+use independent::check::{check, Mismatch, Tally};
+use independent::generate::Sort;
+use std::process::ExitCode;
+use std::thread;
+use std::time::{Duration, Instant};
+
+const USAGE: &str = "usage: compare [--seed N] [--frames N] [--records N] [--seconds N]";
+const THREADS: u64 = 2;
+
+struct Options {
+    seed: u64,
+    frames: u64,
+    records: u64,
+    /// Rounds go on until the time is up.
+    seconds: Option<u64>,
+}
+
+/// A mismatch and the case it was found in.
+struct Found {
+    seed: u64,
+    case: u64,
+    mismatch: Box<Mismatch>,
+}
+
+fn main() -> ExitCode {
+    let options = match options(std::env::args().skip(1)) {
+        Ok(options) => options,
+        Err(message) => {
+            eprintln!("{message}\n{USAGE}");
+            return ExitCode::from(2);
+        }
+    };
+    match rounds(&options) {
+        Ok(tally) => report(&tally),
+        Err(found) => {
+            print_found(&found);
+            ExitCode::FAILURE
+        }
+    }
+}
+
+fn options(mut arguments: impl Iterator<Item = String>) -> Result<Options, String> {
+    let mut options = Options {
+        seed: 1,
+        frames: 200_000,
+        records: 5_000,
+        seconds: None,
+    };
+    while let Some(name) = arguments.next() {
+        let value = arguments.next().and_then(|value| value.parse().ok());
+        let value = value.ok_or(format!("{name} needs a number"))?;
+        match name.as_str() {
+            "--seed" => options.seed = value,
+            "--frames" => options.frames = value,
+            "--records" => options.records = value,
+            "--seconds" => options.seconds = Some(value),
+            _ => return Err(format!("{name} is not known")),
+        }
+    }
+    Ok(options)
+}
+
+/// One round, or with `--seconds` as many as begin before the time is up.
+fn rounds(options: &Options) -> Result<Tally, Found> {
+    let began = Instant::now();
+    let time = Duration::from_secs(options.seconds.unwrap_or(0));
+    let mut tally = Tally::default();
+    let mut seed = options.seed;
+    loop {
+        tally += &round(seed, options)?;
+        seed = seed.wrapping_add(1);
+        if began.elapsed() >= time {
+            break;
+        }
+    }
+    println!(
+        "{} rounds from seed {} in {:.1} s",
+        seed.wrapping_sub(options.seed),
+        options.seed,
+        began.elapsed().as_secs_f64()
+    );
+    Ok(tally)
+}
+
+fn round(seed: u64, options: &Options) -> Result<Tally, Found> {
+    let share = |thread| move || part(seed, options, thread);
+    thread::scope(|scope| {
+        let workers: Vec<_> = (0..THREADS)
+            .map(|thread| scope.spawn(share(thread)))
+            .collect();
+        let mut tally = Tally::default();
+        for worker in workers {
+            tally += &worker.join().expect("a worker does not panic")?;
+        }
+        Ok(tally)
+    })
+}
+
+/// The cases of one thread.
+fn part(seed: u64, options: &Options, thread: u64) -> Result<Tally, Found> {
+    let mut tally = Tally::default();
+    let sorts = [
+        (Sort::Record, options.records),
+        (Sort::Frame, options.frames),
+        (Sort::Writing, options.frames),
+    ];
+    for (sort, count) in sorts {
+        for case in (thread..count).step_by(THREADS as usize) {
+            check(sort, seed, case, &mut tally).map_err(|mismatch| Found {
+                seed,
+                case,
+                mismatch,
+            })?;
+        }
+    }
+    Ok(tally)
+}
+
+fn report(tally: &Tally) -> ExitCode {
+    println!("frames {}", tally.frames);
+    println!("writings {}", tally.writings);
+    println!("records {}", tally.records);
+    let [frames, lost, done] = tally.items;
+    println!("items: frames {frames}, lost marks {lost}, done {done}");
+    for (number, count) in tally.numbers.iter().enumerate() {
+        println!("number {number}: {count} cases");
+    }
+    if tally.numbers.contains(&0) {
+        println!("a number was never met");
+        return ExitCode::FAILURE;
+    }
+    println!("no mismatch");
+    ExitCode::SUCCESS
+}
+
+fn print_found(found: &Found) {
+    let mismatch = &found.mismatch;
+    println!("mismatch: seed {}, case {}", found.seed, found.case);
+    println!("kind: {}", mismatch.kind);
+    println!("call: {}", mismatch.what);
+    println!("proved:      {}", mismatch.proved);
+    println!("independent: {}", mismatch.independent);
+}

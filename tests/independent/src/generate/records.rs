@@ -1,0 +1,240 @@
+//! Records: intact frames with damage of every sort before, between and behind them.
+
+use super::frames::{flip, frame_with, Draft, Fault, FAULTS};
+use super::Random;
+use crate::frame::{FRAME, STATUS, SYNC};
+
+/// Intact frames at a record's end, sync words alternating.
+#[derive(Clone, Copy)]
+pub struct Run {
+    pub start: usize,
+    pub frames: usize,
+}
+
+pub struct Record {
+    pub kind: &'static str,
+    pub bytes: Vec<u8>,
+    pub run: Option<Run>,
+}
+
+/// A record in the making, and the sync word that is next.
+struct Making {
+    bytes: Vec<u8>,
+    next: usize,
+}
+
+pub fn record_case(random: &mut Random) -> Record {
+    let mut making = Making {
+        bytes: Vec::new(),
+        next: random.below(2),
+    };
+    let mut run = None;
+    let kind = match random.below(8) {
+        0 => making.clean(random),
+        1 => making.short(random),
+        2..=4 => making.pieces(random),
+        _ => {
+            run = Some(making.damage_then_run(random));
+            "damage, then a run of intact frames"
+        }
+    };
+    Record {
+        kind,
+        bytes: making.bytes,
+        run,
+    }
+}
+
+/// An intact frame with the sync word given.
+fn intact(sync: usize, random: &mut Random) -> Vec<u8> {
+    let mut draft = Draft::valid(random);
+    draft.sync = SYNC[sync];
+    draft.frame(random)
+}
+
+impl Making {
+    fn clean(&mut self, random: &mut Random) -> &'static str {
+        for _ in 0..random.below(7) {
+            self.intact(random);
+        }
+        "clean"
+    }
+
+    /// Records about as long as one or two frames.
+    fn short(&mut self, random: &mut Random) -> &'static str {
+        let any = random.below(3 * FRAME);
+        let frames = random.within(1, 2) * FRAME;
+        let length = random.pick(&[0, any, frames - 1, frames, frames + 1]);
+        self.intact(random);
+        self.intact(random);
+        self.bytes.resize(length, 0);
+        "short"
+    }
+
+    fn pieces(&mut self, random: &mut Random) -> &'static str {
+        let periods = random.below(13).min(random.below(13));
+        self.lead(random);
+        while self.bytes.len() < periods * FRAME {
+            self.piece(random);
+        }
+        if random.one_in(4) && !self.bytes.is_empty() {
+            let length = random.below(self.bytes.len());
+            self.bytes.truncate(length);
+        }
+        "pieces"
+    }
+
+    fn damage_then_run(&mut self, random: &mut Random) -> Run {
+        self.lead(random);
+        for _ in 0..random.below(5) {
+            self.piece(random);
+        }
+        let start = self.bytes.len();
+        let frames = random.within(4, 6);
+        for _ in 0..frames {
+            self.intact(random);
+        }
+        Run { start, frames }
+    }
+
+    /// Often the damage is met in lock.
+    fn lead(&mut self, random: &mut Random) {
+        if random.one_in(2) {
+            self.intact(random);
+            self.intact(random);
+        }
+    }
+
+    fn piece(&mut self, random: &mut Random) {
+        match random.below(12) {
+            0 | 1 => self.several_intact(random),
+            2 => self.same_sync_word(random),
+            3..=5 => self.bad_run(random),
+            6 => self.cut(random),
+            7 => self.inserted(random),
+            8 => self.deleted(random),
+            9 => self.false_sync_words(random),
+            10 => self.frames_in_payloads(random),
+            _ => self.flipped(random),
+        }
+    }
+
+    fn intact(&mut self, random: &mut Random) {
+        let frame = intact(self.next, random);
+        self.add(&frame);
+    }
+
+    /// One period's bytes, behind which the other sync word is next.
+    fn add(&mut self, bytes: &[u8]) {
+        self.bytes.extend(bytes);
+        self.next = 1 - self.next;
+    }
+
+    fn several_intact(&mut self, random: &mut Random) {
+        for _ in 0..random.within(1, 3) {
+            self.intact(random);
+        }
+    }
+
+    fn same_sync_word(&mut self, random: &mut Random) {
+        self.intact(random);
+        self.next = 1 - self.next;
+    }
+
+    /// One to four periods that mostly are refused, null transmissions among them.
+    fn bad_run(&mut self, random: &mut Random) {
+        for _ in 0..random.within(1, 4) {
+            let fault = random.pick(&FAULTS);
+            let mut frame = frame_with(&[fault], random);
+            frame.resize(FRAME, 0);
+            if fault != Fault::SyncWord {
+                frame[1..4].copy_from_slice(&SYNC[self.next]);
+            }
+            self.add(&frame);
+        }
+    }
+
+    fn cut(&mut self, random: &mut Random) {
+        let frame = intact(self.next, random);
+        let any = random.below(FRAME);
+        let length = random.pick(&[1, 3, 4, FRAME - 1, any, any]);
+        self.add(&frame[..length]);
+    }
+
+    fn inserted(&mut self, random: &mut Random) {
+        let mut frame = intact(self.next, random);
+        let at = random.below(FRAME);
+        let extra = random.within(1, 4);
+        let extra = random.bytes(extra);
+        frame.splice(at..at, extra);
+        self.add(&frame);
+    }
+
+    /// Deleted from the padding, a frame still stands and overhangs the next.
+    fn deleted(&mut self, random: &mut Random) {
+        let mut frame = intact(self.next, random);
+        let at = random.below(FRAME - 4);
+        let many = random.within(1, 4);
+        frame.drain(at..at + many);
+        self.add(&frame);
+    }
+
+    fn false_sync_words(&mut self, random: &mut Random) {
+        let length = random.within(8, FRAME + 100);
+        let mut bytes = random.bytes(length);
+        for _ in 0..random.below(20) {
+            let at = random.below(length - 4);
+            bytes[at] = random.pick(&STATUS);
+            bytes[at + 1..at + 4].copy_from_slice(&random.pick(&SYNC));
+        }
+        self.bytes.extend(bytes);
+    }
+
+    /// Frames that each carry another frame's carried bytes at the same place: two locks are possible.
+    fn frames_in_payloads(&mut self, random: &mut Random) {
+        let shift = random.below(3000);
+        let turned = random.below(2);
+        for _ in 0..random.within(1, 4) {
+            let outer = Draft {
+                sync: SYNC[self.next],
+                ..drawn(random, |draft| draft.main_length() > 5100)
+            };
+            let mut main = random.bytes(outer.main_length());
+            let held = held(self.next ^ turned, random);
+            main[shift..shift + held.len()].copy_from_slice(&held);
+            self.add(&outer.lay_out(&main));
+        }
+    }
+
+    fn flipped(&mut self, random: &mut Random) {
+        let mut frame = intact(self.next, random);
+        for _ in 0..random.within(1, 3) {
+            let end = random.pick(&[16, 300, FRAME]);
+            flip(&mut frame[..end], random);
+        }
+        self.add(&frame);
+    }
+}
+
+/// The carried bytes of a small frame, now and then damaged.
+fn held(sync: usize, random: &mut Random) -> Vec<u8> {
+    let draft = Draft {
+        sync: SYNC[sync],
+        ..drawn(random, |draft| draft.carried() < 2000)
+    };
+    let mut frame = draft.frame(random);
+    frame.truncate(draft.carried());
+    if random.one_in(8) {
+        flip(&mut frame[..20], random);
+    }
+    frame
+}
+
+fn drawn(random: &mut Random, wanted: impl Fn(&Draft) -> bool) -> Draft {
+    loop {
+        let draft = Draft::valid(random);
+        if wanted(&draft) {
+            return draft;
+        }
+    }
+}

@@ -1,0 +1,12 @@
+//! A second implementation of the paper, written from the paper alone, to compare the proved one with.
+
+#[cfg(feature = "proved")]
+pub mod abi;
+#[cfg(feature = "proved")]
+pub mod check;
+pub mod frame;
+pub mod generate;
+pub mod listing;
+pub mod sum;
+pub mod walk;
+pub mod writing;

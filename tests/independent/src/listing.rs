@@ -1,0 +1,33 @@
+//! The listing program's output.
+
+use crate::walk::{step, Item, State};
+
+/// Longer inputs are not listed.
+pub const MOST_BYTES: usize = 61_440;
+
+pub fn listing(input: &[u8]) -> String {
+    if input.len() > MOST_BYTES {
+        return "too long\n".to_string();
+    }
+    let mut lines = "place kind code level\n".to_string();
+    let mut state = State::default();
+    loop {
+        let (item, next) = step(input, state);
+        lines += &line(&item);
+        if let Item::Done(_) = item {
+            return lines;
+        }
+        state = next;
+    }
+}
+
+fn line(item: &Item) -> String {
+    match item {
+        Item::Frame(place, reading) => {
+            let header = &reading.header;
+            format!("{place} frame {} {}\n", header.fct, header.level)
+        }
+        Item::Lost(place, number) => format!("{place} lost {number} -\n"),
+        Item::Done(place) => format!("end {place}\n"),
+    }
+}

@@ -1,0 +1,212 @@
+//! The paper's figures, run against this implementation.
+
+use independent::frame::{
+    fic_part, judge, main_stream_part, read, stream_part, Stream, Timestamp, EMPTY, FRAME, STATUS,
+};
+use independent::listing::listing;
+use independent::sum::sum;
+use independent::walk::{step, Item, State};
+use independent::writing::{write, Fields};
+
+/// NST 0, FICF 0 and nothing unusual.
+fn bare() -> Fields {
+    Fields {
+        level: 0,
+        fsync1: false,
+        fct: 0,
+        ficf: false,
+        nst: 0,
+        fp: 0,
+        mid: 1,
+        mnsc: 0,
+        rfu: 0xFFFF,
+        rfa: 0xFF,
+        timestamp: Timestamp::None,
+        table: EMPTY,
+    }
+}
+
+fn with_lengths(fields: Fields, lengths: &[u16]) -> Fields {
+    let mut fields = fields;
+    fields.nst = lengths.len() as u8;
+    for (stream, &stl) in fields.table.iter_mut().zip(lengths) {
+        stream.stl = stl;
+    }
+    fields
+}
+
+fn written(fields: &Fields) -> Result<Vec<u8>, u8> {
+    let mut out = vec![0; FRAME];
+    match write(fields, &vec![0x5A; fields.main_length()], &mut out) {
+        0 => Ok(out),
+        number => Err(number),
+    }
+}
+
+/// The frame with its header sum made right again.
+fn resummed(mut frame: Vec<u8>) -> Vec<u8> {
+    let end = 10 + usize::from(frame[5] & 0x7F) * 4;
+    let right = sum(&frame[4..end]);
+    frame[end..end + 2].copy_from_slice(&right.to_be_bytes());
+    frame
+}
+
+/// Four frames, FCT 10 to 13, sync words alternating.
+fn record() -> Vec<u8> {
+    let frame = |n: u8| {
+        let fields = Fields {
+            fct: 10 + n,
+            fsync1: n % 2 == 1,
+            ..bare()
+        };
+        written(&fields).unwrap()
+    };
+    (0..4).flat_map(frame).collect()
+}
+
+#[test]
+fn smallest_frames() {
+    let frame = written(&bare()).unwrap();
+    assert_eq!(read(&frame).unwrap().header.fl, 1);
+    assert!(frame[19] == 0xFF && frame[20..].iter().all(|&byte| byte == 0x55));
+    let fields = Fields {
+        ficf: true,
+        mid: 3,
+        ..bare()
+    };
+    assert_eq!(fields.fl(), 33);
+}
+
+#[test]
+fn header_and_entry_bytes() {
+    let mut fields = Fields {
+        fct: 249,
+        ficf: true,
+        nst: 1,
+        fp: 5,
+        mid: 2,
+        ..bare()
+    };
+    fields.table[0] = Stream {
+        scid: 1,
+        sad: 54,
+        tpl: 34,
+        stl: 24,
+    };
+    let frame = written(&fields).unwrap();
+    assert_eq!(
+        frame[4..12],
+        [0xF9, 0x81, 0xB0, 0x4A, 0x04, 0x36, 0x88, 0x18]
+    );
+    assert_eq!(fic_part(&frame), Ok(4 + 12..4 + 108));
+    assert_eq!(stream_part(&frame, 0), Ok(4 + 108..4 + 300));
+    assert_eq!(stream_part(&frame, 1), Err(13));
+    assert_eq!(main_stream_part(&frame), Ok(4 + 12..4 + 300));
+}
+
+#[test]
+fn wrong_main_sum_raises_the_level_to_2() {
+    for (level, handed_on) in [(0, 2), (1, 2), (2, 2), (3, 3)] {
+        let mut frame = written(&Fields { level, ..bare() }).unwrap();
+        assert_eq!(frame[0], STATUS[usize::from(level)]);
+        assert_eq!(read(&frame).unwrap().header.level, level);
+        frame[12] ^= 1;
+        assert_eq!(read(&frame).unwrap().header.level, handed_on);
+    }
+}
+
+#[test]
+fn limits() {
+    let longest = written(&with_lengths(bare(), &[684, 80, 0])).unwrap();
+    assert_eq!(read(&longest).unwrap().header.fl, 1532);
+    assert_eq!(written(&with_lengths(bare(), &[684, 81])), Err(10));
+    assert!(written(&with_lengths(bare(), &[684])).is_ok());
+    assert_eq!(written(&with_lengths(bare(), &[685])), Err(8));
+    let mut frame = written(&bare()).unwrap();
+    frame[5] = 65;
+    assert_eq!(judge(&frame), 5);
+}
+
+#[test]
+fn limits_on_reading() {
+    let mut longer = written(&with_lengths(bare(), &[684, 80])).unwrap();
+    longer[7] += 2;
+    longer[15] += 1;
+    assert_eq!(judge(&longer), 6);
+    assert_eq!(judge(&resummed(longer)), 10);
+    let mut stream = written(&with_lengths(bare(), &[684])).unwrap();
+    stream[7] += 2;
+    stream[11] += 1;
+    assert_eq!(judge(&resummed(stream)), 8);
+}
+
+#[test]
+fn one_frame_is_done_at_place_1() {
+    let frame = written(&bare()).unwrap();
+    let (item, state) = step(&frame, State::default());
+    assert_eq!((item, state.place), (Item::Done(1), 1));
+}
+
+#[test]
+fn listing_of_the_paper() {
+    let mut record = record();
+    record[2 * FRAME + 1] = 0;
+    let lines = "place kind code level\n0 frame 10 0\n6144 frame 11 0\n\
+                 12288 lost 2 -\n18432 frame 13 0\nend 24576\n";
+    assert_eq!(listing(&record), lines);
+    assert_eq!(listing(&vec![0; 61_441]), "too long\n");
+    assert_eq!(listing(&[]), "place kind code level\nend 0\n");
+}
+
+fn frame_places(record: &[u8]) -> Vec<usize> {
+    let mut state = State::default();
+    let mut places = Vec::new();
+    loop {
+        let (item, next) = step(record, state);
+        match item {
+            Item::Frame(place, _) => places.push(place),
+            Item::Lost(..) => {}
+            Item::Done(_) => return places,
+        }
+        state = next;
+    }
+}
+
+fn four_from(start: usize) -> Vec<usize> {
+    (0..4).map(|n| start + n * FRAME).collect()
+}
+
+#[test]
+fn the_hunt_goes_on_behind_the_third_miss() {
+    let mut damaged = record();
+    damaged.extend(vec![0; 2 * FRAME + 100]);
+    damaged.extend(record());
+    let second = 6 * FRAME + 100;
+    assert_eq!(
+        frame_places(&damaged),
+        [four_from(0), four_from(second)].concat()
+    );
+}
+
+/// One padding byte lost: the frame still stands, and the lock on it lasts beyond the third frame's start.
+#[test]
+fn an_overhanging_frame_costs_four() {
+    let mut damaged = record();
+    damaged.truncate(4 * FRAME - 1);
+    damaged.extend(record());
+    assert_eq!(frame_places(&damaged), four_from(0));
+}
+
+#[test]
+fn any_state_is_taken() {
+    for lock in [false, true] {
+        for place in [FRAME + 1, usize::MAX - 1, usize::MAX] {
+            let state = State {
+                place,
+                misses: 255,
+                lock,
+            };
+            assert_eq!(step(&record()[..FRAME], state), (Item::Done(place), state));
+        }
+    }
+}
