@@ -9,7 +9,9 @@ const SEED: u64 = 1;
 
 fn main() -> ExitCode {
     let arguments: Vec<String> = std::env::args().skip(1).collect();
-    let count = arguments.first().and_then(|count| count.parse::<u64>().ok());
+    let count = arguments
+        .first()
+        .and_then(|count| count.parse::<u64>().ok());
     let (Some(count), Some(program)) = (count, arguments.get(1)) else {
         eprintln!("usage: listings COUNT PROGRAM [ARGUMENTS]");
         return ExitCode::from(2);
@@ -18,7 +20,9 @@ fn main() -> ExitCode {
         let record = record_case(&mut Random::new(SEED, Sort::Record, case)).bytes;
         let (proved, expected) = (listed(program, &arguments[2..], &record), listing(&record));
         if proved != expected {
-            println!("mismatch: seed {SEED}, record {case}\nproved:\n{proved}independent:\n{expected}");
+            println!(
+                "mismatch: seed {SEED}, record {case}\nproved:\n{proved}independent:\n{expected}"
+            );
             return ExitCode::FAILURE;
         }
     }
