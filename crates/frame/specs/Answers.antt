@@ -1,12 +1,12 @@
 -- What reading answers, as the paper's numbers and values.
 -- Assumes nothing.
-use mathlib.Core.Bool.{Bool, true, false}
 use mathlib.Core.List.{List, [], _∷_, _++_}
 use mathlib.Core.Path.{_≡_}
 use Prim.Native.Nat.{ℕ, _+_, _-_}
 use lib.Dec.{eqb}
 use lib.ListN.{length, replicate}
 use denote.Ref.{RefT, now}
+pub use Rattle.sum.specs.Sum.{digit}
 use Rattle.frame.specs.declared.Answer.{Answer}
 use Rattle.frame.specs.declared.Answer.the-variants.{Accepted, Refused}
 use Rattle.frame.specs.declared.Header.{Header}
@@ -22,10 +22,6 @@ use Rattle.frame.specs.Rules.{refusalOf}
 abbrev pub timestampValues : Timestamp → List ℕ
 timestampValues Absent = 0 ∷ 0xFFFFFF ∷ []
 timestampValues (Time n) = 1 ∷ n ∷ []
-
-abbrev pub digit : Bool → ℕ
-digit false = 0
-digit true = 1
 
 abbrev pub headerValues : Header → List ℕ
 headerValues h =

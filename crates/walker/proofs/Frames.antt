@@ -17,7 +17,7 @@ use Rattle.walk.specs.Walk.{Judged, Handed, Look, Stepped, frame, lost, done, c
 use Rattle.walk.specs.Records.{judged, shown, stepShown, stepAt}
 use Rattle.walk.proofs.Rules.{live-fits}
 use Rattle.walk.proofs.Looks.{step-dead, step-live, walk-ind}
-use Rattle.walker.specs.Advance.{frameIn}
+use Rattle.walker.specs.Advance.{framePart}
 
 module _ (R : Judged) (positive : 0 < R .period) where
   -- a frame's period exists
@@ -61,12 +61,12 @@ module _ (R : Judged) (positive : 0 < R .period) where
       alive s e ih = subst (λ (r : Stepped). Within (r .item)) (sym (step-live R positive s e)) (next (look R s .gives) (look R s .goes) (stepOf R (look R s .goes)) (gives s (live-fits R s e)) ih)
 
 abbrev pub Whole : List ℕ → Item → Type 0
-Whole bytes (Frame p h) = length (frameIn bytes (Frame p h)) ≡ 6144
+Whole bytes (Frame p h) = length (framePart bytes (Frame p h)) ≡ 6144
 Whole bytes (Lost p n) = Unit {0}
 Whole bytes (Done p) = Unit {0}
 
 pub frame-whole : (bytes : List ℕ) (s : State) → Whole bytes (stepAt bytes s .item)
-unfolding stepAt stepShown shown frameIn judged
+unfolding stepAt stepShown shown framePart judged
 frame-whole bytes s = go (stepOf (judged 3 bytes) s .item) (within (judged 3 bytes) (lit< tt) s)
   where
     go : (x : Handed) → Within (judged 3 bytes) (lit< tt) x → Whole bytes (shown bytes x)

@@ -14,10 +14,10 @@ use Rattle.walker.specs.declared.Walk.{Walk}
 use Rattle.walker.specs.declared.Advanced.{Advanced}
 
 -- an item's frame: the part of the record that reading gets, and nothing unless the item is a frame
-unfoldable pub frameIn : List ℕ → Item → List ℕ
-frameIn bytes (Frame p h) = part bytes p
-frameIn bytes (Lost p n) = []
-frameIn bytes (Done p) = []
+unfoldable pub framePart : List ℕ → Item → List ℕ
+framePart bytes (Frame p h) = part bytes p
+framePart bytes (Lost p n) = []
+framePart bytes (Done p) = []
 
 -- the very reference that came in, hunting at place 0
 abbrev pub begun : RefT (List ℕ) → Walk
@@ -29,7 +29,7 @@ found w = stepAt (now (w .«record»)) (w .state)
 
 -- its item's frame
 abbrev pub frameOf : Walk → List ℕ
-frameOf w = frameIn (now (w .«record»)) (found w .item)
+frameOf w = framePart (now (w .«record»)) (found w .item)
 
 -- the item, its table, its frame, which is a reference of its own, and the same record at the state after
 abbrev pub advanced : Walk → RefT (List ℕ) → Advanced

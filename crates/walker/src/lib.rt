@@ -2,7 +2,7 @@
 // `begin`, `Walk::step` and `nth` are walked by hand; the work is in walk's `State::step`.
 ghost use mathlib.Core.Path.{_≡_};
 ghost use Rattle.walk.specs.Records.{part};
-ghost use Rattle.walker.specs.Advance.{frameIn, frameOf, begun, advanced, nthOf, itemOf};
+ghost use Rattle.walker.specs.Advance.{framePart, frameOf, begun, advanced, nthOf, itemOf};
 use frame::Stream;
 use walk::Item;
 use walk::State;
@@ -38,7 +38,7 @@ fn part_at(record: &[u8], p: usize) -> &[u8]
 
 // The item's frame; unless it is a frame, nothing, at the record's start.
 pub fn frame_of(record: &[u8], item: Item) -> &[u8]
-    ensures { λ r. ⌜ now r ≡ frameIn (now («record» .entry)) item ⌝ }
+    ensures { λ r. ⌜ now r ≡ framePart (now («record» .entry)) item ⌝ }
 {
     match item {
         Item::Frame(p, _) => part_at(record, p),

@@ -2,20 +2,20 @@
 -- Assumes nothing.
 use mathlib.Core.Path.{_∙_}
 use borrow.Author.Needs.{needs}
-use Rattle.walker.specs.Advance.{frameIn}
+use Rattle.walker.specs.Advance.{framePart}
 use Rattle.walker.proofs.frame_of.Statement.{statement}
 use Rattle.walker.proofs.frame_of.Tie as tie
 
 returns : tie.Need-returns
-unfolding frameIn
+unfolding framePart
 returns c = c .part-at .ensures ∙ (rw (c .before .before .item .given .1))
 
 returns-2 : tie.Need-returns-2
-unfolding frameIn
+unfolding framePart
 returns-2 c = rw (c .before .enum-told .given .1)
 
 returns-3 : tie.Need-returns-3
-unfolding frameIn
+unfolding framePart
 returns-3 c = rw (c .before .enum-told2 .given .1)
 
 pub frame-of-spec : {M : Type 1} → statement M
