@@ -3,6 +3,7 @@ pub mod Examples
 pub mod First
 pub mod Laws
 pub mod Looks
+pub mod Marks
 pub mod Misses
 pub mod Records
 pub mod Rules

@@ -5,6 +5,7 @@ use mathlib.Core.List.{List}
 use mathlib.Core.Path.{_≡_, refl, sym, ap, ap₂, _∙_}
 use Prim.Native.Nat.{ℕ, _+_, _-_, _≤_, _<_}
 use native.Mathlib.Nat.{add-sub-cancel-left}
+use native.Mathlib.Omega.{arith}
 use lib.Dec.{lit<, eqb}
 use lib.ListN.{length, take, drop}
 use borrow.Author.Tests.{eq-eqb, ne-eqb, eqb-true, le-leb, lt-leb}
@@ -18,7 +19,7 @@ use Rattle.walk.specs.declared.Item.the-variants.{Frame}
 use Rattle.walk.specs.declared.State.{State}
 use Rattle.walk.specs.declared.Step.{Step}
 use Rattle.walk.specs.Walk.{Fair, Handed, Stepped, frame, lost, done, differ, confirmed, itemAt, keeps, stepOf, hunting, locked}
-use Rattle.walk.specs.Records.{part, judged, fsync1At, shown, tableShown, stepShown, stepAt, doneAt, lostAt}
+use Rattle.walk.specs.Records.{part, judged, fsync1At, shown, tableShown, stepShown, stepAt, Onward, doneAt, lostAt}
 use Rattle.walk.proofs.Rules.{and-left}
 use Rattle.walk.proofs.Laws.{step-short, step-spent, step-kept, step-missed, step-last, step-confirmed, step-passed}
 
@@ -83,7 +84,7 @@ module _ (bytes : List ℕ) (p k : ℕ) where
     unfolding judged
     hunt-confirmed e = as-step bytes (hunting p k) (frame p) (locked (p + 6144) 0) (step-confirmed (judged 3 bytes) (fair bytes) p k room e)
 
-    pub hunt-on : confirmed (judged 3 bytes) p ≡ false → stepAt bytes (hunting p k) ≡ stepAt bytes (hunting (p + 1) k)
+    hunt-on : confirmed (judged 3 bytes) p ≡ false → stepAt bytes (hunting p k) ≡ stepAt bytes (hunting (p + 1) k)
     unfolding judged
     hunt-on e = on bytes (hunting p k) (hunting (p + 1) k) (step-passed (judged 3 bytes) (fair bytes) p k room e)
 
@@ -113,6 +114,17 @@ module _ (bytes : List ℕ) (p n : ℕ) (e : n ≡ refusalOf (part bytes p)) whe
 pub confirmed-stands : (bytes : List ℕ) (p : ℕ) → confirmed (judged 3 bytes) p ≡ true → refusalOf (part bytes p) ≡ 0
 unfolding confirmed judged
 confirmed-stands bytes p e = eqb-true (refusalOf (part bytes p)) 0 (and-left (eqb (refusalOf (part bytes p)) 0) _ e)
+
+-- ---- on to a later place
+pub stays : (bytes : List ℕ) {a b : ℕ} → a ≡ b → Onward bytes a b
+stays bytes e = record { ahead = omega arith; same = λ k. ap (λ (p : ℕ). stepAt bytes (hunting p k)) e }
+
+module _ {bytes : List ℕ} {a b : ℕ} (o : Onward bytes a b) where
+  pub further : {c : ℕ} → Onward bytes b c → Onward bytes a c
+  further q = record { ahead = omega arith; same = λ k. o .same k ∙ q .same k }
+
+  pub passes : b + 6144 ≤ length bytes → confirmed (judged 3 bytes) b ≡ false → Onward bytes a (b + 1)
+  passes room e = record { ahead = omega arith; same = λ k. o .same k ∙ hunt-on bytes b k room e }
 
 -- a frame that reading accepted, shown
 pub frame-shown : (bytes : List ℕ) (p : ℕ) (r : Reading) (h : Header) (s : State) → Reads (part bytes p) r → r .answer ≡ Accepted h

@@ -15,7 +15,7 @@ use Rattle.walk.specs.declared.Item.{Item}
 use Rattle.walk.specs.declared.Item.the-variants.{Frame, Lost, Done}
 use Rattle.walk.specs.declared.State.{State}
 use Rattle.walk.specs.declared.Step.{Step}
-use Rattle.walk.specs.Walk.{Judged, Handed, frame, lost, done, stepOf}
+use Rattle.walk.specs.Walk.{Judged, Handed, frame, lost, done, stepOf, hunting}
 
 -- "the reading gets that part of the record itself"
 abbrev pub part : List ℕ → ℕ → List ℕ
@@ -55,6 +55,11 @@ stepShown bytes x s = record { item = shown bytes x; table = tableShown bytes x;
 -- the step, with three misses as its limit
 unfoldable pub stepAt : List ℕ → State → Step
 stepAt bytes s = stepShown bytes (stepOf (judged 3 bytes) s .item) (stepOf (judged 3 bytes) s .walk)
+
+-- the hunt may go on from a to b: from either it hands back the same
+pub record Onward (bytes : List ℕ) (a b : ℕ) : Type 0 where
+  pub ahead : a ≤ b
+  pub same : (k : ℕ) → stepAt bytes (hunting a k) ≡ stepAt bytes (hunting b k)
 
 -- the steps that hand out no frame, as the code puts them together
 unfoldable pub doneAt : ℕ → ℕ → Bool → Step

@@ -1,4 +1,5 @@
 // Walking a record: the state, and a step from one item to the next.
+ghost use mathlib.Core.Bool.{false};
 ghost use mathlib.Core.List.{[]};
 ghost use mathlib.Core.Path.{_≡_};
 ghost use Prim.Native.Nat.{_+_, _≤_, _<_};
@@ -6,7 +7,7 @@ ghost use lib.ListN.{length};
 ghost use Rattle.frame.specs.Rules.{refusalOf};
 ghost use Rattle.frame.specs.Answers.{tableBy, Reads};
 ghost use Rattle.walk.specs.Walk.{frame, confirmed, locked, hunting};
-ghost use Rattle.walk.specs.Records.{part, judged, fsync1At, stepShown, stepAt, doneAt, lostAt, Missed};
+ghost use Rattle.walk.specs.Records.{part, judged, fsync1At, stepShown, stepAt, Onward, doneAt, lostAt, Missed};
 ghost use Rattle.walk.specs.Tallies.{tallyWith, tallyOf};
 use frame::Answer;
 use frame::Header;
@@ -144,6 +145,64 @@ fn done_step(place: usize, misses: usize, lock: bool) -> Step
     }
 }
 
+// Whether p begins like a frame: with the first two bytes of one of the sync words, 073AB6 or F8C549.
+fn mark_at(bytes: &[u8], p: usize) -> bool
+    requires { ⌜ p + 6144 ≤ length (now bytes) ⌝ }
+    ensures { λ r. ⌜ (r ≡ false → confirmed (judged 3 (now (bytes .entry))) p ≡ false) ⌝ }
+{
+    let a = bytes[p + 1];
+    let b = bytes[p + 2];
+    (a == 0x07) & (b == 0x3A) | (a == 0xF8) & (b == 0xC5)
+}
+
+// Whether one of the 64 places from p on begins like a frame. There is no early exit, so that the loop compiles to vector compares.
+fn marked(bytes: &[u8], p: usize) -> bool
+    requires { ⌜ p + 6208 ≤ length (now bytes) ⌝ }
+    ensures { λ r. ⌜ (r ≡ false → Onward (now (bytes .entry)) p (p + 64)) ⌝ }
+{
+    let mut found = false;
+    let mut i = 0;
+    while i < 64 {
+        found = found | mark_at(bytes, p + i);
+        i += 1;
+    }
+    found
+}
+
+// On past the whole blocks of 64 places in which nothing begins like a frame. 6208 is 64 and a period.
+fn past_unmarked(bytes: &[u8], from: usize) -> usize
+    ensures { λ r. ⌜ Onward (now (bytes .entry)) from r ⌝ }
+{
+    let n = bytes.len();
+    if n < 6208 {
+        return from;
+    }
+    let mut p = from;
+    while p <= n - 6208 {
+        if marked(bytes, p) {
+            return p;
+        }
+        p += 64;
+    }
+    p
+}
+
+// On to the first place that begins like a frame, or to the end.
+fn next_mark(bytes: &[u8], from: usize) -> usize
+    requires { ⌜ 6144 ≤ length (now bytes) ⌝ }
+    ensures { λ r. ⌜ Onward (now (bytes .entry)) from r ⌝ }
+{
+    let last = bytes.len() - 6144;
+    let mut p = past_unmarked(bytes, from);
+    while p <= last {
+        if mark_at(bytes, p) {
+            return p;
+        }
+        p += 1;
+    }
+    p
+}
+
 // Hunting from a place on: to the first place that is confirmed, or to the end.
 fn hunt(bytes: &[u8], from: usize, misses: usize) -> Step
     ensures { λ r. ⌜ r ≡ stepAt (now (bytes .entry)) (hunting from misses) ⌝ }
@@ -152,12 +211,12 @@ fn hunt(bytes: &[u8], from: usize, misses: usize) -> Step
     if n < 6144 {
         return done_step(from, misses, false);
     }
-    let mut p = from;
+    let mut p = next_mark(bytes, from);
     while p <= n - 6144 {
         if confirms(bytes, p) {
             return frame_step(bytes, p);
         }
-        p += 1;
+        p = next_mark(bytes, p + 1);
     }
     done_step(p, misses, false)
 }

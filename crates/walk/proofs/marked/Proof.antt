@@ -1,0 +1,45 @@
+use mathlib.Core.Bool.{false}
+use mathlib.Core.Path.{_≡_}
+use Prim.Native.Nat.{_+_, _-_, _≤_}
+use native.Mathlib.Omega.{arith}
+use native.Mathlib.Nat.{le-antisymm}
+use borrow.Author.Needs.{needs}
+use Rattle.walk.specs.Records.{Onward}
+use Rattle.walk.proofs.Steps.{stays, further, passes}
+use Rattle.walk.proofs.Marks.{neither}
+use Rattle.walk.proofs.marked.Statement.{statement}
+use Rattle.walk.proofs.marked.Tie as tie
+
+abbrev Inv-loop : tie.InvT-loop
+Inv-loop bytes p found₀ i₀ found i = (i ≤ 64) × (found ≡ false → Onward bytes p (p + i))
+
+abbrev μ-loop : tie.MeasureT-loop
+μ-loop bytes p found₀ i₀ found i = 64 - i
+
+loop-holds : tie.Need-loop-holds Inv-loop μ-loop
+loop-holds c = (search needs, λ _. stays _ (omega arith))
+
+loop-again : tie.Need-loop-again Inv-loop μ-loop
+loop-again c = (
+  search needs,
+  λ e.
+      let n = neither _ _ e in
+      further (passes (c .before .before .loop .inv .1 (n .0)) (omega arith) (c .mark-at .ensures (n .1))) (stays _ (omega arith)),
+)
+
+returns : tie.Need-returns Inv-loop μ-loop
+returns c e = let q = le-antisymm (c .before .loop .inv .0) (c .loop-test .left) in rw q at (c .before .loop .inv .1 e)
+
+pub marked-spec : {M : Type 1} → statement M
+marked-spec =
+    tie.close
+    (tie.spec
+    Inv-loop
+    μ-loop
+    loop-holds
+    (λ c. search needs)
+    (λ c κs. search needs)
+    (λ c. search needs)
+    (λ c. search needs)
+    loop-again
+    returns)

@@ -1,0 +1,38 @@
+use mathlib.Core.Path.{_≡_, refl}
+use Prim.Native.Nat.{suc, _+_, _-_}
+use lib.ListN.{length}
+use native.Mathlib.Omega.{arith}
+use borrow.Author.Needs.{needs}
+use Rattle.walk.specs.Records.{Onward}
+use Rattle.walk.proofs.Steps.{passes}
+use Rattle.walk.proofs.next_mark.Statement.{statement}
+use Rattle.walk.proofs.next_mark.Tie as tie
+
+abbrev Inv-loop : tie.InvT-loop
+Inv-loop bytes from last p₀ p = (last + 6144 ≡ length bytes) × Onward bytes from p
+
+abbrev μ-loop : tie.MeasureT-loop
+μ-loop bytes from last p₀ p = suc last - p
+
+loop-holds : tie.Need-loop-holds Inv-loop μ-loop
+loop-holds c = (omega arith, c .past-unmarked .ensures)
+
+loop-again : tie.Need-loop-again Inv-loop μ-loop
+loop-again c =
+    (omega arith, passes (c .before .before .before .loop .inv .1) (omega arith) (c .before .mark-at .ensures (c .if1 .left)))
+
+pub next-mark-spec : {M : Type 1} → statement M
+next-mark-spec =
+    tie.close
+    (tie.spec
+    Inv-loop
+    μ-loop
+    (λ c. search needs)
+    (λ c κs. search needs)
+    loop-holds
+    (λ c κs. search needs)
+    (λ c. search needs)
+    (λ c. search needs)
+    (λ c. search needs)
+    loop-again
+    (λ c. search needs))
