@@ -1,11 +1,10 @@
 // Walking a record: the state, and a step from one item to the next.
 ghost use mathlib.Core.Bool.{false};
-ghost use mathlib.Core.List.{[]};
 ghost use mathlib.Core.Path.{_≡_};
 ghost use Prim.Native.Nat.{_+_, _≤_, _<_};
 ghost use lib.ListN.{length};
 ghost use Rattle.frame.specs.Rules.{refusalOf};
-ghost use Rattle.frame.specs.Answers.{tableBy, Reads};
+ghost use Rattle.frame.specs.Answers.{Reads};
 ghost use Rattle.walk.specs.Walk.{frame, confirmed, locked, hunting};
 ghost use Rattle.walk.specs.Records.{part, judged, fsync1At, stepShown, stepAt, Onward, doneAt, lostAt, Missed};
 ghost use Rattle.walk.specs.Tallies.{tallyWith, tallyOf};
@@ -79,17 +78,6 @@ fn confirms(bytes: &[u8], p: usize) -> bool
     if fsync1_at(bytes, p) { !t } else { t }
 }
 
-fn no_streams() -> [Stream; 64]
-    ensures { λ r. ⌜ r ≡ tableBy [] ⌝ }
-{
-    [Stream {
-        scid: 0,
-        sad: 0,
-        tpl: 0,
-        stl: 0,
-    }; 64]
-}
-
 // The misses after a frame handed out.
 const CLEARED: usize = 0;
 
@@ -126,7 +114,7 @@ fn lost_step(p: usize, n: u8, walk: State) -> Step
 {
     Step {
         item: Item::Lost(p, n),
-        table: no_streams(),
+        table: reading::no_streams(),
         walk,
     }
 }
@@ -136,7 +124,7 @@ fn done_step(place: usize, misses: usize, lock: bool) -> Step
 {
     Step {
         item: Item::Done(place),
-        table: no_streams(),
+        table: reading::no_streams(),
         walk: State {
             place,
             misses,
