@@ -2,7 +2,7 @@
 # a line for each value, 'at NAME OFFSET BYTES'; for each whole, 'whole NAME BYTES'; for each refusal number, 'number N'.
 function name(value) {
     if (value ~ /placeOf/) return "ITEM"
-    if (value ~ /In [(a-z]/) sub(/In .*/, "", value)
+    if (value ~ /(In|By) [(a-z]/) sub(/(In|By) .*/, "", value)
     gsub(/digit|[() ]|\.[0-9]/, "", value)
     sub(/^.*\./, "", value)
     return toupper(value)

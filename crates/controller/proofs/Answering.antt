@@ -16,13 +16,14 @@ use Rattle.frame.specs.Words.{wordAt}
 use Rattle.frame.specs.Frame.{pick, flOf, tistWidths, timeOf}
 use Rattle.frame.specs.Rules.{refusalOf, streamRefusalOf, ficPart, streamPart}
 use Rattle.frame.specs.Answers.{headerValues, fieldsOf, Reads}
+use Rattle.frame.specs.Writing.{timeBy}
 use Rattle.frame.proofs.Accepting.{acceptable}
 use Rattle.frame.proofs.Parts.{fic-part-inside, stream-part-inside, stream-granted}
 use Rattle.frame.proofs.Words.{split-fit}
 use Rattle.reading.specs.Steps.{timestampFor, headerFor}
 use Rattle.reading.proofs.Answered.{got-number, got-header, got-table, got-refused, got-nonzero}
 use Rattle.reading.proofs.Answering.{header-values}
-use Rattle.controller.specs.Boundary.{timeIn, encode, headCounts, tableBytes, answerOf, stateRefusalOf, lentRefusal, Told}
+use Rattle.controller.specs.Boundary.{encode, headCounts, tableBytes, answerOf, stateRefusalOf, lentRefusal, Told}
 use Rattle.walk.specs.declared.State.{State}
 use Rattle.walk.specs.Records.{judged, stepShown, stepAt}
 use Rattle.walk.proofs.Misses.{misses-within}
@@ -31,11 +32,11 @@ split-lt : (f : List ℕ) → timeOf f < 16777216
 unfolding timeOf
 split-lt f = split-fit tistWidths (wordAt f (4 + (flOf f + 2) * 4)) .1 .0
 
-fits : (n : ℕ) → n < 16777216 → timeIn (timestampFor n) < 16777216
+fits : (n : ℕ) → n < 16777216 → timeBy (timestampFor n) < 16777216
 unfolding timestampFor
 fits n h = go (eqb n 0xFFFFFF) refl
   where
-    go : (b : Bool) → eqb n 0xFFFFFF ≡ b → timeIn (pick b Absent (Time n)) < 16777216
+    go : (b : Bool) → eqb n 0xFFFFFF ≡ b → timeBy (pick b Absent (Time n)) < 16777216
     go true e = lit< tt
     go false e = h
 
@@ -70,10 +71,10 @@ module _ (f before : List ℕ) (whole : length before ≡ 402) (r : Reading) (re
       told-given 402 (refusalOf f) (answerOf f) before whole 0 (sym z) refl after (p ∙ w)
 
   -- a timestamp that reading gave is of 24 bits
-  pub time-fits : (h : Header) → r .answer ≡ Accepted h → timeIn (h .timestamp) < 16777216
+  pub time-fits : (h : Header) → r .answer ≡ Accepted h → timeBy (h .timestamp) < 16777216
   unfolding headerFor
   time-fits h e =
-      subst (λ (k : Header). timeIn (k .timestamp) < 16777216) (sym (got-header f r reads h e))
+      subst (λ (k : Header). timeBy (k .timestamp) < 16777216) (sym (got-header f r reads h e))
       (fits (timeOf f) (split-lt f))
 
 -- ---- parts: given, they lie within the frame

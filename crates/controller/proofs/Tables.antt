@@ -13,9 +13,9 @@ use Rattle.frame.specs.declared.Timestamp.{Timestamp}
 use Rattle.frame.specs.declared.Timestamp.the-variants.{Absent, Time}
 use Rattle.frame.specs.Answers.{timestampValues, headerValues, noStream}
 use Rattle.frame.specs.Stores.{put}
-use Rattle.frame.specs.Writing.{streamValues}
+use Rattle.frame.specs.Writing.{streamValues, timeBy}
 use Rattle.frame.proofs.Stores.{put-then, put-chain, put-all}
-use Rattle.controller.specs.Boundary.{sortIn, timeIn, inBytes, encode, headCounts, firstCounts, firstValues, secondCounts, secondValues, streamCounts, tableBytes, placeOf, marks, stepBytes}
+use Rattle.controller.specs.Boundary.{sortIn, inBytes, encode, headCounts, firstCounts, firstValues, secondCounts, secondValues, streamCounts, tableBytes, placeOf, marks, stepBytes}
 use Rattle.walk.specs.declared.Item.{Item}
 use Rattle.walk.specs.declared.State.{State}
 
@@ -48,7 +48,7 @@ table-more l t i h k o =
     ∙ ap (λ (r : List ℕ). tableBytes (take i t) ++ r) (one s) in
     rw (d, c) (put-then l 18 (tableBytes (take i t)) (omega arith) (encode streamCounts (streamValues s)))
 
-timestamp-two : (t : Timestamp) → timestampValues t ≡ sortIn t ∷ timeIn t ∷ []
+timestamp-two : (t : Timestamp) → timestampValues t ≡ sortIn t ∷ timeBy t ∷ []
 timestamp-two Absent = refl
 timestamp-two (Time n) = refl
 

@@ -14,19 +14,15 @@ use Rattle.frame.specs.Words.{wordAt}
 use Rattle.frame.specs.Frame.{pick, streamsOf}
 use Rattle.frame.specs.Rules.{_when_, first}
 use Rattle.frame.specs.Answers.{digit, fieldsOf, tableBy}
-use Rattle.frame.specs.Writing.{streamValues}
+use Rattle.frame.specs.Writing.{streamValues, timeBy}
 use Rattle.walk.specs.declared.Item.{Item}
 use Rattle.walk.specs.declared.Item.the-variants.{Frame, Lost, Done}
 use Rattle.walk.specs.declared.State.{State}
 
--- the two values of a timestamp, apart
+-- a timestamp's sort: 0 where none is given
 abbrev pub sortIn : Timestamp → ℕ
 sortIn Absent = 0
 sortIn (Time n) = 1
-
-abbrev pub timeIn : Timestamp → ℕ
-timeIn Absent = 0xFFFFFF
-timeIn (Time n) = n
 
 -- a number in n bytes, high byte first
 abbrev pub inBytes : ℕ → ℕ → List ℕ
@@ -40,22 +36,23 @@ encode [] vs = []
 encode (n ∷ ns) [] = []
 encode (n ∷ ns) (v ∷ vs) = inBytes n v ++ encode ns vs
 
--- level, sync word, FCT, FICF, NST, FP, MID, FL, MNSC, Rfu, Rfa, the timestamp's sort and number
-abbrev pub headCounts : List ℕ
-headCounts = 1 ∷ 1 ∷ 1 ∷ 1 ∷ 1 ∷ 1 ∷ 1 ∷ 2 ∷ 2 ∷ 2 ∷ 1 ∷ 1 ∷ 3 ∷ []
-
--- the same in two parts, as they are stored
+-- level, sync word, FCT, FICF, NST, FP, MID, FL
 abbrev pub firstCounts : List ℕ
 firstCounts = 1 ∷ 1 ∷ 1 ∷ 1 ∷ 1 ∷ 1 ∷ 1 ∷ 2 ∷ []
 
 abbrev pub firstValues : Header → List ℕ
 firstValues h = h .level ∷ digit (h .fsync1) ∷ h .fct ∷ digit (h .ficf) ∷ h .nst ∷ h .fp ∷ h .mid ∷ h .fl ∷ []
 
+-- MNSC, Rfu, Rfa, the timestamp's sort and number
 abbrev pub secondCounts : List ℕ
 secondCounts = 2 ∷ 2 ∷ 1 ∷ 1 ∷ 3 ∷ []
 
 abbrev pub secondValues : Header → List ℕ
-secondValues h = h .mnsc ∷ h .rfu ∷ h .rfa ∷ sortIn (h .timestamp) ∷ timeIn (h .timestamp) ∷ []
+secondValues h = h .mnsc ∷ h .rfu ∷ h .rfa ∷ sortIn (h .timestamp) ∷ timeBy (h .timestamp) ∷ []
+
+-- the header's values
+abbrev pub headCounts : List ℕ
+headCounts = firstCounts ++ secondCounts
 
 -- SCID, SAD, TPL, STL
 abbrev pub streamCounts : List ℕ

@@ -7,9 +7,9 @@ ghost use Rattle.frame.specs.Words.{wordAt};
 ghost use Rattle.frame.specs.Stores.{put};
 ghost use Rattle.frame.specs.Rules.{refusalOf, streamRefusalOf, ficPart, streamPart};
 ghost use Rattle.frame.specs.Answers.{digit, headerValues};
-ghost use Rattle.frame.specs.Writing.{streamValues};
+ghost use Rattle.frame.specs.Writing.{streamValues, timeBy};
 ghost use Rattle.walk.specs.Records.{stepAt};
-ghost use Rattle.controller.specs.Boundary.{inBytes, encode, headCounts, firstCounts, firstValues, secondCounts, secondValues, streamCounts, tableBytes, sortIn, timeIn, answerOf, partBytes, kindIn, lostIn, placeOf, marks, stepBytes, stateIn, stateRefusalOf, Told};
+ghost use Rattle.controller.specs.Boundary.{inBytes, encode, headCounts, firstCounts, firstValues, secondCounts, secondValues, streamCounts, tableBytes, sortIn, answerOf, partBytes, kindIn, lostIn, placeOf, marks, stepBytes, stateIn, stateRefusalOf, Told};
 use frame::Answer;
 use frame::Header;
 use frame::Span;
@@ -35,7 +35,7 @@ fn sort(t: Timestamp) -> u8
 }
 
 fn time(t: Timestamp) -> u32
-    ensures { λ r. ⌜ r ≡ timeIn t ⌝ }
+    ensures { λ r. ⌜ r ≡ timeBy t ⌝ }
 {
     match t {
         Timestamp::Absent => 0xFFFFFF,
@@ -91,7 +91,7 @@ fn put_first(out: &mut [u8], h: Header)
 
 // MNSC to the timestamp, nine bytes from 9 on.
 fn put_second(out: &mut [u8], h: Header)
-    requires { ⌜ (length (now out) ≡ 402) × (timeIn (h .timestamp) < 16777216) ⌝ }
+    requires { ⌜ (length (now out) ≡ 402) × (timeBy (h .timestamp) < 16777216) ⌝ }
     ensures { λ _. ⌜ now (out .exit) ≡ put (now (out .entry)) 9 (encode secondCounts (secondValues h)) ⌝ }
 {
     let mnsc = h.mnsc;
@@ -111,7 +111,7 @@ fn put_second(out: &mut [u8], h: Header)
 }
 
 fn put_answer(out: &mut [u8], h: Header, table: [Stream; 64])
-    requires { ⌜ (length (now out) ≡ 402) × (timeIn (h .timestamp) < 16777216) ⌝ }
+    requires { ⌜ (length (now out) ≡ 402) × (timeBy (h .timestamp) < 16777216) ⌝ }
     ensures { λ _. ⌜ now (out .exit) ≡ encode headCounts (headerValues h) ++ tableBytes table ⌝ }
 {
     put_first(out, h);
