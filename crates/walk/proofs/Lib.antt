@@ -5,6 +5,7 @@ pub mod Laws
 pub mod Looks
 pub mod Marks
 pub mod Misses
+pub mod Real
 pub mod Records
 pub mod Rules
 pub mod Second

@@ -1,4 +1,4 @@
--- An accepted period begins with a sync word, so a place that lacks the first two bytes of both is not confirmed.
+-- An accepted period begins with a sync word, so a place that lacks the first two bytes of both is not accepted, and not confirmed.
 -- Assumes nothing.
 use mathlib.Core.Bool.{Bool, true, false, _||_}
 use mathlib.Core.List.{List}
@@ -8,6 +8,7 @@ use native.Mathlib.Omega.{arith}
 use lib.ListN.{getD, drop}
 use lib.Seq.{getD-take, getD-drop}
 use Rattle.frame.specs.Frame.{placeIn, fsyncs, fsyncOf}
+use Rattle.frame.specs.Rules.{refusalOf}
 use Rattle.frame.proofs.Accepting.{acceptable}
 use Rattle.frame.proofs.Places.{at-place}
 use Rattle.walk.specs.Walk.{confirmed}
@@ -25,23 +26,27 @@ module _ (a b c : ℕ) (r : Bool) (low : (a < 256) × (b < 256) × (c < 256)) (o
   begins (suc zero) h e = other (omega arith) (omega arith)
   begins (suc (suc n)) h e = absurd (omega arith)
 
-module _ (bytes : List ℕ) (p : ℕ) (small : (i : ℕ) → getD bytes i 0 < 256) where
-  byte-is : (i : ℕ) → i < 6144 → getD (part bytes p) i 0 ≡ getD bytes (p + i) 0
+module _ (bytes : List ℕ) (p : ℕ) where
+  pub byte-is : (i : ℕ) → i < 6144 → getD (part bytes p) i 0 ≡ getD bytes (p + i) 0
   byte-is i h = getD-take 6144 (drop p bytes) i 0 h ∙ getD-drop p bytes i 0
 
-  fsync-is : fsyncOf (part bytes p) ≡ getD bytes (p + 1) 0 * 65536 + getD bytes (p + 2) 0 * 256 + getD bytes (p + 3) 0
-  unfolding fsyncOf
-  fsync-is =
-      rw (byte-is 0 (omega arith), byte-is 1 (omega arith), byte-is 2 (omega arith), byte-is 3 (omega arith))
-      (omega (arith, small (p + 1), small (p + 2), small (p + 3)))
+  module _ (small : (i : ℕ) → getD bytes i 0 < 256) where
+    fsync-is : fsyncOf (part bytes p) ≡ getD bytes (p + 1) 0 * 65536 + getD bytes (p + 2) 0 * 256 + getD bytes (p + 3) 0
+    unfolding fsyncOf
+    fsync-is =
+        rw (byte-is 0 (omega arith), byte-is 1 (omega arith), byte-is 2 (omega arith), byte-is 3 (omega arith))
+        (omega (arith, small (p + 1), small (p + 2), small (p + 3)))
 
-  pub unmarked : (r : Bool) → (getD bytes (p + 1) 0 ≡ 0x07 → getD bytes (p + 2) 0 ≡ 0x3A → r ≡ true) → (getD bytes (p + 1) 0 ≡ 0xF8 → getD bytes (p + 2) 0 ≡ 0xC5 → r ≡ true)
-      → r ≡ false → confirmed (judged 3 bytes) p ≡ false
-  unmarked r one other m = go (confirmed (judged 3 bytes) p) refl
-    where
-      go : (b : Bool) → confirmed (judged 3 bytes) p ≡ b → b ≡ false
-      go false e = refl
-      go true e =
+    module _ (r : Bool) (one : getD bytes (p + 1) 0 ≡ 0x07 → getD bytes (p + 2) 0 ≡ 0x3A → r ≡ true) (other : getD bytes (p + 1) 0 ≡ 0xF8 → getD bytes (p + 2) 0 ≡ 0xC5 → r ≡ true) where
+      pub stands-marked : refusalOf (part bytes p) ≡ 0 → r ≡ true
+      stands-marked e =
           let f = part bytes p in
-          let s = acceptable f (confirmed-stands bytes p e) .synced in
-          sym (begins _ _ _ r (small (p + 1), small (p + 2), small (p + 3)) one other (placeIn fsyncs (fsyncOf f)) s (at-place fsyncs (fsyncOf f) (omega arith) ∙ fsync-is)) ∙ m
+          let s = acceptable f e .synced in
+          begins _ _ _ r (small (p + 1), small (p + 2), small (p + 3)) one other (placeIn fsyncs (fsyncOf f)) s (at-place fsyncs (fsyncOf f) (omega arith) ∙ fsync-is)
+
+      pub unmarked : r ≡ false → confirmed (judged 3 bytes) p ≡ false
+      unmarked m = go (confirmed (judged 3 bytes) p) refl
+        where
+          go : (b : Bool) → confirmed (judged 3 bytes) p ≡ b → b ≡ false
+          go false e = refl
+          go true e = sym (stands-marked (confirmed-stands bytes p e)) ∙ m

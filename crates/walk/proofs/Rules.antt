@@ -15,6 +15,10 @@ pub and-left : (a b : Bool) → (a && b) ≡ true → a ≡ true
 and-left true b e = refl
 and-left false b e = e
 
+pub and-right : (a b : Bool) → (a && b) ≡ true → b ≡ true
+and-right true b e = e
+and-right false b e = cc
+
 pub live-fits : (R : Judged) (s : State) → live R s ≡ true → s .place + R .period ≤ R .len
 unfolding live
 live-fits R s e = leb-true (s .place + R .period) (R .len) (and-left (fits R (s .place)) _ e)
