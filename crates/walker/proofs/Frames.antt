@@ -1,4 +1,4 @@
--- The frame beside an item that a step hands out is a whole period of the record.
+-- The frame beside an item that a step hands out is the whole period of the record at the item's place.
 -- Assumes nothing.
 use mathlib.Core.Bool.{Bool, true, false}
 use mathlib.Core.List.{List}
@@ -14,10 +14,11 @@ use Rattle.walk.specs.declared.Item.{Item}
 use Rattle.walk.specs.declared.Item.the-variants.{Frame, Lost, Done}
 use Rattle.walk.specs.declared.State.{State}
 use Rattle.walk.specs.Walk.{Judged, Handed, Look, Stepped, frame, lost, done, confirmed, live, itemAt, look, lookLocked, lookHunting, stepBy, stepOf}
-use Rattle.walk.specs.Records.{judged, shown, stepShown, stepAt}
+use Rattle.walk.specs.Records.{part, judged, shown, stepShown, stepAt}
 use Rattle.walk.proofs.Rules.{live-fits}
 use Rattle.walk.proofs.Looks.{step-dead, step-live, walk-ind}
 use Rattle.walker.specs.Advance.{framePart}
+use Rattle.walker.proofs.Parts.{period-within}
 
 module _ (R : Judged) (positive : 0 < R .period) where
   -- a frame's period exists
@@ -61,7 +62,7 @@ module _ (R : Judged) (positive : 0 < R .period) where
       alive s e ih = subst (λ (r : Stepped). Within (r .item)) (sym (step-live R positive s e)) (next (look R s .gives) (look R s .goes) (stepOf R (look R s .goes)) (gives s (live-fits R s e)) ih)
 
 abbrev pub Whole : List ℕ → Item → Type 0
-Whole bytes (Frame p h) = length (framePart bytes (Frame p h)) ≡ 6144
+Whole bytes (Frame p h) = (framePart bytes (Frame p h) ≡ record { start = p; len = 6144 }) × (length (part bytes p) ≡ 6144)
 Whole bytes (Lost p n) = Unit {0}
 Whole bytes (Done p) = Unit {0}
 
@@ -70,6 +71,6 @@ unfolding stepAt stepShown shown framePart judged
 frame-whole bytes s = go (stepOf (judged 3 bytes) s .item) (within (judged 3 bytes) (lit< tt) s)
   where
     go : (x : Handed) → Within (judged 3 bytes) (lit< tt) x → Whole bytes (shown bytes x)
-    go (frame p) h = length-take-le 6144 (drop p bytes) (omega (arith, h, length-drop p bytes))
+    go (frame p) h = (period-within bytes p (omega (arith, h)), length-take-le 6144 (drop p bytes) (omega (arith, h, length-drop p bytes)))
     go (lost p n) h = tt
     go (done p) h = tt

@@ -1,23 +1,39 @@
 -- The walk that holds its record: at its beginning, after a step, and what its n-th step hands back.
 -- Assumes nothing.
-use mathlib.Core.List.{List, []}
+use mathlib.Core.List.{List}
 use Prim.Native.Nat.{ℕ, zero, suc}
 use denote.Ref.{RefT, now}
-use lib.ListN.{getD}
+use lib.Dec.{leb}
+use lib.ListN.{length, getD}
+use Rattle.frame.specs.declared.Span.{Span}
+use Rattle.frame.specs.Frame.{pick}
+use Rattle.frame.specs.Answers.{PartAt}
 use Rattle.walk.specs.declared.Item.{Item}
 use Rattle.walk.specs.declared.Item.the-variants.{Frame, Lost, Done}
 use Rattle.walk.specs.declared.State.{State}
 use Rattle.walk.specs.declared.Step.{Step}
 use Rattle.walk.specs.Walk.{done, hunting, items, rest}
-use Rattle.walk.specs.Records.{part, judged, shown, stepAt}
+use Rattle.walk.specs.Records.{judged, shown, stepAt}
 use Rattle.walker.specs.declared.Walk.{Walk}
 use Rattle.walker.specs.declared.Advanced.{Advanced}
 
--- an item's frame: the part of the record that reading gets, and nothing unless the item is a frame
-unfoldable pub framePart : List ℕ → Item → List ℕ
-framePart bytes (Frame p h) = part bytes p
-framePart bytes (Lost p n) = []
-framePart bytes (Done p) = []
+-- an empty part at the record's start
+abbrev pub noPart : Span
+noPart = record { start = 0; len = 0 }
+
+-- where the period at a place lies, as far as the record goes; no part beyond its end
+unfoldable pub periodPart : List ℕ → ℕ → Span
+periodPart bytes p = pick (leb p (length bytes)) (record { start = p; len = 6144 }) noPart
+
+-- where an item's frame lies: the period at its place, and no part unless it is a frame
+unfoldable pub framePart : List ℕ → Item → Span
+framePart bytes (Frame p h) = periodPart bytes p
+framePart bytes (Lost p n) = noPart
+framePart bytes (Done p) = noPart
+
+-- r is the item's frame, as a part of the record s itself: its bytes, and its place in memory
+abbrev pub FrameAt : RefT (List ℕ) → Item → RefT (List ℕ) → Type 0
+FrameAt s x r = PartAt s (framePart (now s) x) r
 
 -- the very reference that came in, hunting at place 0
 abbrev pub begun : RefT (List ℕ) → Walk
@@ -26,10 +42,6 @@ begun s = record { «record» = s; state = hunting 0 0 }
 -- what the walk finds from where it stands
 abbrev pub found : Walk → Step
 found w = stepAt (now (w .«record»)) (w .state)
-
--- its item's frame
-abbrev pub frameOf : Walk → List ℕ
-frameOf w = framePart (now (w .«record»)) (found w .item)
 
 -- the item, its table, its frame, which is a reference of its own, and the same record at the state after
 abbrev pub advanced : Walk → RefT (List ℕ) → Advanced

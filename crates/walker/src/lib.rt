@@ -1,8 +1,8 @@
 // The walk as one thing: the record and the walk's state in it, held together.
 // `begin`, `Walk::step` and `nth` are walked by hand; the work is in walk's `State::step`.
 ghost use mathlib.Core.Path.{_≡_};
-ghost use Rattle.walk.specs.Records.{part};
-ghost use Rattle.walker.specs.Advance.{framePart, frameOf, begun, advanced, nthOf, itemOf};
+ghost use Rattle.frame.specs.Answers.{PartAt};
+ghost use Rattle.walker.specs.Advance.{periodPart, FrameAt, begun, advanced, nthOf, itemOf};
 use frame::Stream;
 use walk::Item;
 use walk::State;
@@ -21,9 +21,9 @@ pub struct Advanced<'a> {
     pub walk: Walk<'a>,
 }
 
-// The period at p, or what there is of it.
+// The period at p, or what there is of it; nothing, at the record's start, where p is beyond its end.
 fn part_at(record: &[u8], p: usize) -> &[u8]
-    ensures { λ r. ⌜ now r ≡ part (now («record» .entry)) p ⌝ }
+    ensures { λ r. ⌜ PartAt («record» .entry) (periodPart (now («record» .entry)) p) r ⌝ }
 {
     let n = record.len();
     if p > n {
@@ -38,7 +38,7 @@ fn part_at(record: &[u8], p: usize) -> &[u8]
 
 // The item's frame; unless it is a frame, nothing, at the record's start.
 pub fn frame_of(record: &[u8], item: Item) -> &[u8]
-    ensures { λ r. ⌜ now r ≡ framePart (now («record» .entry)) item ⌝ }
+    ensures { λ r. ⌜ FrameAt («record» .entry) item r ⌝ }
 {
     match item {
         Item::Frame(p, _) => part_at(record, p),
@@ -62,7 +62,7 @@ pub fn begin<'a>(record: &'a [u8]) -> Walk<'a>
 impl<'a> Walk<'a> {
     // To the next frame or lost mark of the record; done, at its place, where there is none.
     pub fn step(self) -> Advanced<'a>
-        ensures { λ r. ⌜ (r ≡ advanced (self .entry) (r .frame)) × (now (r .frame) ≡ frameOf (self .entry)) ⌝ }
+        ensures { λ r. ⌜ (r ≡ advanced (self .entry) (r .frame)) × FrameAt (self .entry .«record») (r .item) (r .frame) ⌝ }
     {
         let s = self.state.step(self.record);
         let frame = frame_of(self.record, s.item);

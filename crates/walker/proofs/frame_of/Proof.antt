@@ -1,6 +1,6 @@
 -- `walker::frame_of` meets its contract, item by item.
 -- Assumes nothing.
-use mathlib.Core.Path.{_∙_}
+use mathlib.Core.Path.{refl}
 use borrow.Author.Needs.{needs}
 use Rattle.walker.specs.Advance.{framePart}
 use Rattle.walker.proofs.frame_of.Statement.{statement}
@@ -8,15 +8,15 @@ use Rattle.walker.proofs.frame_of.Tie as tie
 
 returns : tie.Need-returns
 unfolding framePart
-returns c = c .part-at .ensures ∙ (rw (c .before .before .item .given .1))
+returns c = rw (c .before .before .item .given .1) (c .part-at .ensures)
 
 returns-2 : tie.Need-returns-2
 unfolding framePart
-returns-2 c = rw (c .before .enum-told .given .1)
+returns-2 c = rw (c .before .enum-told .given .1) (record { bytes = refl; place = refl })
 
 returns-3 : tie.Need-returns-3
 unfolding framePart
-returns-3 c = rw (c .before .enum-told2 .given .1)
+returns-3 c = rw (c .before .enum-told2 .given .1) (record { bytes = refl; place = refl })
 
 pub frame-of-spec : {M : Type 1} → statement M
 frame-of-spec =

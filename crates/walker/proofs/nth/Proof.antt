@@ -55,7 +55,7 @@ use Rattle.walk.proofs.Step as S
 use Rattle.walk.proofs.Step.Laws as S′
 use Rattle.walk.proofs.Item as I
 use Rattle.walk.proofs.Item.Laws as I′
-use Rattle.walker.specs.Advance.{frameOf, begun, advanced, after, nthOf}
+use Rattle.walker.specs.Advance.{FrameAt, begun, advanced, after, nthOf}
 use Rattle.walker.specs.declared.Walk.{Walk}
 use Rattle.walker.specs.declared.Advanced.{Advanced}
 use Rattle.walker.proofs.Held.{Good, start-good, val, on, α, αᵉ, D, L, OwnRecord, mach, Own, holds, typed}
@@ -87,7 +87,7 @@ taken r = record { item = r .item; table = r .table; walk = r .walk .state }
 
 -- what `step` says
 abbrev Went : Walk → Advanced → Type 0
-Went d r = (r ≡ advanced d (r .frame)) × (now (r .frame) ≡ frameOf d)
+Went d r = (r ≡ advanced d (r .frame)) × FrameAt (d .«record») (r .item) (r .frame)
 
 -- no step is left
 arrived : (bytes : List ℕ) (m : ℕ) (t u : State) → m ≡ 0 → after bytes m t ≡ u → t ≡ u

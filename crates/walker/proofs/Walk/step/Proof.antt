@@ -1,7 +1,7 @@
 -- `walker::Walk::step` meets its contract: a walk of its MIR, by hand. The struct is taken apart, walk's `State::step` is called on the state and the slice and `frame_of` on the slice and the item, and the item, its table, its frame and the advanced walk are put together.
 -- The struct is Copy: a copy of what it owns goes to each callee, one into the result with the new state in its place, and one stays for the exit.
 -- Assumes nothing.
-use mathlib.Core.Path.{_≡_, refl, ap, _∙_, subst}
+use mathlib.Core.Path.{_≡_, refl, ap, subst}
 use Prim.Native.Nat.{ℕ}
 use mathlib.Core.List.{List, [], _∷_}
 use lib.Dec.{T as Holds}
@@ -24,7 +24,7 @@ use sound.WpLaws.{FmC, fmOf, WpFn-mono}
 use denote.RattleType.{owns}
 use denote.Laws.{Is, shows}
 use denote.Builtin.{u8}
-use denote.Ref.{RefT, now}
+use denote.Ref.{RefT}
 use denote.Signature.{namedLft}
 use denote.Slice.{sliceTy, ShrSlice, shr-slice-tells, shr-slice-lawful}
 use denote.Steps.{only, owned, peeks, heard, nothing}
@@ -52,7 +52,7 @@ use Rattle.walk.proofs.State.step as callee
 use Rattle.walk.proofs.State.step.Symbol as callee-def
 use Rattle.walk.proofs.State.step.Symbol.{name as #walk·step}
 use Rattle.walk.proofs.State.step.Met as callee-thm
-use Rattle.walker.specs.Advance.{framePart, found}
+use Rattle.walker.specs.Advance.{FrameAt, found}
 use Rattle.walker.specs.declared.Walk.{Walk}
 use Rattle.walker.specs.declared.Advanced.{Advanced}
 use Rattle.walker.proofs.Held.{B, val, on, α, D, L, OwnRecord, vd, StepAt, mach, Own, typed, moves, to, apart, said}
@@ -112,14 +112,14 @@ module _ {M : Type 1} (𝓤 : URA M) (H : Heap 𝓤) (A : Atoms 𝓤) (W : Given
       nothing ! $ owned ! I.the-row (Is I.the-row) (EL.makes I.the-type I′.the-plain 𝓤 H A) x _ is $ fjoin ! $ move ! (1 ∷ 0 ∷ []) $ fjoin ! $
       move ! (2 ∷ 0 ∷ []) $ use2 W (raw (FrameOf 𝓤 H A mem run .pre (to-part x))) (qed W ((‵ (flft κ q) ⊛ ‵ ftrue) ∷ ‵ (owns (ShrSlice (named 0) κ u8 ∷ I.the-row ∷ []) (d .«record», (x, tt)) (val (d .«record») ∷ [], (machI x ∷ [], tt))) ∷ []) ∵ join ! $ frame ! $ done !) $ frame ! $ done !)
 
-  part-said : (x : It.Item) (f : RefT (List ℕ)) → ent 𝓤 (ensured 𝓤 H A part.ended (part.clauses 𝓤 H A mem run) (κ, tt) (d .«record», (x, tt)) tt f) (fact 𝓤 (now f ≡ framePart (now (d .«record»)) x))
-  part-said x f = exE 𝓤 _ (λ ws. snd∗ 𝓤 (sem 𝓤 H A (lasts part.ended (κ, tt) (d .«record», (x, tt)) ws)) (fact 𝓤 (now f ≡ framePart (now (d .«record»)) x)))
+  part-said : (x : It.Item) (f : RefT (List ℕ)) → ent 𝓤 (ensured 𝓤 H A part.ended (part.clauses 𝓤 H A mem run) (κ, tt) (d .«record», (x, tt)) tt f) (fact 𝓤 (FrameAt (d .«record») x f))
+  part-said x f = exE 𝓤 _ (λ ws. snd∗ 𝓤 (sem 𝓤 H A (lasts part.ended (κ, tt) (d .«record», (x, tt)) ws)) (fact 𝓤 (FrameAt (d .«record») x f)))
 
-  exits : (r : Step) (f : RefT (List ℕ)) → r ≡ found d → now f ≡ framePart (now (d .«record»)) (r .item) → ent 𝓤 (⋆ 𝓤 H A (‵ (OwnRecord κ f) ∷ (‵ (flft κ q) ⊛ ‵ ftrue) ∷ ‵ (Own κ d) ∷ ‵ (S.the-row .own r (machS r ∷ [])) ∷ [])) (Post (machR r f))
+  exits : (r : Step) (f : RefT (List ℕ)) → r ≡ found d → FrameAt (d .«record») (r .item) f → ent 𝓤 (⋆ 𝓤 H A (‵ (OwnRecord κ f) ∷ (‵ (flft κ q) ⊛ ‵ ftrue) ∷ ‵ (Own κ d) ∷ ‵ (S.the-row .own r (machS r ∷ [])) ∷ [])) (Post (machR r f))
   exits r f e e′ =
       qed W (‵ (OwnRecord κ f) ∷ (‵ (flft κ q) ⊛ ‵ ftrue) ∷ ‵ (Own κ d) ∷ ‵ (S.the-row .own r (machS r ∷ [])) ∷ []) ∵
       suffices ! _ (ends-at 𝓤 H A this.ended stayed (this.clauses 𝓤 H A mem run) W (((κ, tt), (q, tt), tt, (d, tt), (mach κ d ∷ [], tt)), tt) (machR r f) (made r f) (tt, tt) (tt, tt)) $
-      says ! (ap (λ (x : Step). made x f) e, e′ ∙ ap (λ (x : Step). framePart (now (d .«record»)) (x .item)) e) $
+      says ! (ap (λ (x : Step). made x f) e, e′) $
       move ! (1 ∷ []) $ frame ! $ move ! (2 ∷ []) $
       use1 W (given (machS r ∷ [] ≡ machS r ∷ []) (‵ (all-own (S.the-type .parts) S′.the-laws (vs r)))) (own-open 𝓤 H A W S.the-type S′.the-laws (vs r) (machS r)) $ learn ! (λ _.
       fsplit ! $ move ! (1 ∷ []) $ fsplit ! $ move ! (1 ∷ []) $ fsplit ! $ move ! (5 ∷ []) $ use1 W (‵ (Own κ d) ⊛ ‵ (Own κ d)) (LL.copy (D κ) (T′.the-copy (α κ)) 𝓤 H A W .twice d (mach κ d ∷ [])) $ split ! $
@@ -151,7 +151,7 @@ module _ {M : Type 1} (𝓤 : URA M) (H : Heap 𝓤) (A : Atoms 𝓤) (W : Given
         move ! (1 ∷ 2 ∷ []) $ use2 W (raw (FrameOf 𝓤 H A mem run .pre (to-part (r .item))) ⊛ ‵ (Own κ d)) (goes-part (r .item) (LL.owed S.the-type S′.the-laws r _ is .0)) $ split ! $
         calls-at ! fm (FrameOf 𝓤 H A mem run) known-part (to-part (r .item)) (and-then ! (load ! (from ! (stop !)) (look ! 7 refl)) (and-then ! (load ! (from ! (fld ! refl (stop !))) (look-in ! 15 (sub ! 0 refl (whole !)))) (no-more !))) (λ u′.
         use1 W (later (some (λ (f : RefT (List ℕ)). ((‵ (flft κ q) ⊛ ‵ ftrue) ⊛ ‵ (ShrSlice (named 0) κ u8 .own f (u′ ∷ []))) ⊛ raw (ensured 𝓤 H A part.ended (part.clauses 𝓤 H A mem run) (κ, tt) (d .«record», (r .item, tt)) tt f)))) (id⊢ 𝓤 _) $ await ! tt $ pick ! (λ f.
-        split ! $ move ! (1 ∷ []) $ use1 W (raw (fact 𝓤 (now f ≡ framePart (now (d .«record»)) (r .item)))) (part-said (r .item) f) $ heard ! (now f ≡ framePart (now (d .«record»)) (r .item)) (λ e′. split ! $ move ! (1 ∷ []) $
+        split ! $ move ! (1 ∷ []) $ use1 W (raw (fact 𝓤 (FrameAt (d .«record») (r .item) f))) (part-said (r .item) f) $ heard ! (FrameAt (d .«record») (r .item) f) (λ e′. split ! $ move ! (1 ∷ []) $
         -- [what the frame owns; the token; what the struct owns; what the step owns; _8; …; _7; …; _6; …; _5; …; _4; …; room for _3; …; _2; …; _1; …; room for _0; …]
         peeks ! (ShrSlice (named 0) κ u8) (Is (ShrSlice (named 0) κ u8)) (shows 𝓤 H A (ShrSlice (named 0) κ u8)) f (u′ ∷ []) (λ isf.
         land ! (from ! (stop !)) (init ! 14 refl (shr-slice-lawful 𝓤 H A W erased κ u8 .typed f _ isf .0)) $
