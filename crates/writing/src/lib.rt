@@ -46,45 +46,33 @@ fn entries(count: usize) -> usize
     if count < 64 { count } else { 64 }
 }
 
-fn streams_wider(table: [Stream; 64], count: usize) -> bool
-    ensures { λ r. ⌜ r ≡ someStreamWider (take count table) ⌝ }
-{
-    let n = entries(count);
-    let mut found = false;
-    let mut i = 0;
-    while i < n {
-        found = found | stream_wider(table[i]);
-        i += 1;
-    }
-    found
+// What the rules look at in the entries that have effect: some wider than its fields, some STL above 684, the sum of all STLs.
+struct Seen {
+    wider: bool,
+    above: bool,
+    total: usize,
 }
 
-fn stl_above(table: [Stream; 64], count: usize) -> bool
-    ensures { λ r. ⌜ r ≡ someStlAbove 684 (take count table) ⌝ }
+fn look_over(table: [Stream; 64], count: usize) -> Seen
+    ensures { λ r. ⌜ (r .wider ≡ someStreamWider (take count table)) × (r .above ≡ someStlAbove 684 (take count table)) × (r .total ≡ stlTotal (take count table)) × (r .total ≤ 4194240) ⌝ }
 {
     let n = entries(count);
-    let mut found = false;
-    let mut i = 0;
-    while i < n {
-        let s = table[i];
-        found = found | (s.stl > 684);
-        i += 1;
-    }
-    found
-}
-
-fn stl_total(table: [Stream; 64], count: usize) -> usize
-    ensures { λ r. ⌜ (r ≡ stlTotal (take count table)) × (r ≤ 4194240) ⌝ }
-{
-    let n = entries(count);
+    let mut wider = false;
+    let mut above = false;
     let mut total: usize = 0;
     let mut i = 0;
     while i < n {
         let s = table[i];
+        wider = wider | stream_wider(s);
+        above = above | (s.stl > 684);
         total += s.stl as usize;
         i += 1;
     }
-    total
+    Seen {
+        wider,
+        above,
+        total,
+    }
 }
 
 fn head_wider(level: u8, fct: u8, fp: u8, mid: u8, mnsc: u16, rfu: u16, rfa: u8) -> bool
@@ -208,7 +196,8 @@ fn wide(x: Fields) -> bool
     let table = x.table;
     let timestamp = x.timestamp;
     let head = head_wider(x.level, x.fct, x.fp, x.mid, x.mnsc, x.rfu, x.rfa);
-    head | (time_wider(timestamp) | streams_wider(table, x.count))
+    let seen = look_over(table, x.count);
+    head | (time_wider(timestamp) | seen.wider)
 }
 
 fn body_in(x: Fields, main: usize) -> u8
@@ -218,10 +207,11 @@ fn body_in(x: Fields, main: usize) -> u8
     let count = x.count;
     let table = x.table;
     let ficl = ficl(x.ficf, x.mid);
-    let total = stl_total(table, count);
+    let seen = look_over(table, count);
+    let total = seen.total;
     body(
         x.fct,
-        stl_above(table, count),
+        seen.above,
         count + 1 + ficl + 2 * total,
         main,
         4 * ficl + 8 * total,
@@ -351,7 +341,8 @@ fn fl(x: Fields) -> usize
 {
     let count = x.count;
     let table = x.table;
-    count + 1 + ficl(x.ficf, x.mid) + 2 * stl_total(table, count)
+    let seen = look_over(table, count);
+    count + 1 + ficl(x.ficf, x.mid) + 2 * seen.total
 }
 
 fn fill(x: Fields, main: &[u8], out: &mut [u8])
