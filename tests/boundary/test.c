@@ -1,15 +1,14 @@
 /* The exports against answers that an independent program worked out, against every wrong length, and with guards around all that is lent. */
-#include "spindlewren.h"
+#include "test.h"
 
 #include <stdio.h>
 #include <stdlib.h>
 #include <string.h>
 
-enum { GUARD = 64, MOST = 2 * SPINDLEWREN_ANSWER, FILL = 0xA5, LONGEST = 6200 };
 static int bad = 0;
 static unsigned long calls = 0;
 
-static void hold(int right, const char *what, size_t at) {
+void hold(int right, const char *what, size_t at) {
     if (!right) {
         printf("boundary: %s at %lu: FAILED\n", what, (unsigned long)at);
         bad = 1;
@@ -28,27 +27,23 @@ static uint8_t *load(const char *name, size_t *len) {
     return bytes;
 }
 
-/* The four exports, as one sort of request: bytes, an index, and bytes for the answer. */
-typedef unsigned request(const uint8_t *bytes, size_t len, size_t i, uint8_t *out, size_t out_len);
-
-static unsigned read_frame(const uint8_t *bytes, size_t len, size_t i, uint8_t *out, size_t out_len) {
+unsigned read_frame(const uint8_t *bytes, size_t len, size_t i, uint8_t *out, size_t out_len) {
     (void)i;
     return spindlewren_read(bytes, len, out, out_len);
 }
-static unsigned fic(const uint8_t *bytes, size_t len, size_t i, uint8_t *out, size_t out_len) {
+unsigned fic(const uint8_t *bytes, size_t len, size_t i, uint8_t *out, size_t out_len) {
     (void)i;
     return spindlewren_fic(bytes, len, out, out_len);
 }
-static unsigned stream(const uint8_t *bytes, size_t len, size_t i, uint8_t *out, size_t out_len) {
+unsigned stream(const uint8_t *bytes, size_t len, size_t i, uint8_t *out, size_t out_len) {
     return spindlewren_stream(bytes, len, i, out, out_len);
 }
-static unsigned step(const uint8_t *bytes, size_t len, size_t i, uint8_t *out, size_t out_len) {
+unsigned step(const uint8_t *bytes, size_t len, size_t i, uint8_t *out, size_t out_len) {
     (void)i;
     return spindlewren_step(bytes, len, out, out_len);
 }
 
-/* Makes the request with guards on both sides of the out bytes, which are untouched on a refusal. */
-static unsigned guarded(request *ask, const uint8_t *bytes, size_t len, size_t i, uint8_t *out, size_t out_len) {
+unsigned guarded(request *ask, const uint8_t *bytes, size_t len, size_t i, uint8_t *out, size_t out_len) {
     static uint8_t room[GUARD + MOST + GUARD], before[sizeof room];
     unsigned number;
     memset(room, FILL, sizeof room);
@@ -85,8 +80,7 @@ static void part_at(request *ask, const uint8_t *frame, size_t i, size_t start, 
     hold(spindlewren_number(part, SPINDLEWREN_LEN, 2) == len, "part's length", i);
 }
 
-/* The parts of a frame whose answer is known: FIC and streams tile the main stream. */
-static void parts(const uint8_t *frame, const uint8_t *answer) {
+void parts(const uint8_t *frame, const uint8_t *answer) {
     static const size_t beyond[] = {0, 1, 63, 64, 191, (size_t)-1};
     uint8_t part[SPINDLEWREN_PART] = {FILL, FILL, FILL, FILL};
     size_t nst = answer[SPINDLEWREN_NST], i;
@@ -193,6 +187,7 @@ int main(void) {
     walked(noise, noise_len, "tests/listing/noise.out");
     walked(four, 0, "tests/listing/empty.out");
     states(four, four_len);
+    rows();
     free(four);
     free(damaged);
     free(noise);
