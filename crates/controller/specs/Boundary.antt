@@ -18,6 +18,7 @@ use Rattle.frame.specs.Writing.{streamValues, timeBy}
 use Rattle.walk.specs.declared.Item.{Item}
 use Rattle.walk.specs.declared.Item.the-variants.{Frame, Lost, Done}
 use Rattle.walk.specs.declared.State.{State}
+use Rattle.walk.specs.Records.{stepAt}
 
 -- a timestamp's sort: 0 where none is given
 abbrev pub sortIn : Timestamp → ℕ
@@ -98,6 +99,10 @@ stepBytes x s = inBytes 8 (s .place) ++ marks x s ++ inBytes 8 (placeOf x)
 -- the state in a walk's bytes; its place is two words
 unfoldable pub stateIn : List ℕ → State
 stateIn w = record { place = wordAt w 0 * 4294967296 + wordAt w 4; misses = getD w 8 0; lock = eqb (getD w 9 0) 1 }
+
+-- a walk's bytes w after a step over a record
+abbrev pub walkOf : List ℕ → List ℕ → List ℕ
+walkOf bytes w = stepBytes (stepAt bytes (stateIn w) .item) (stepAt bytes (stateIn w) .walk)
 
 -- the lock is one bit: above 1 it is a value wider than its field
 unfoldable pub stateRefusalOf : List ℕ → ℕ

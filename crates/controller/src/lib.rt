@@ -8,8 +8,7 @@ ghost use Rattle.frame.specs.Stores.{put};
 ghost use Rattle.frame.specs.Rules.{refusalOf, streamRefusalOf, ficPart, streamPart};
 ghost use Rattle.frame.specs.Answers.{digit, headerValues};
 ghost use Rattle.frame.specs.Writing.{streamValues, timeBy};
-ghost use Rattle.walk.specs.Records.{stepAt};
-ghost use Rattle.controller.specs.Boundary.{inBytes, encode, headCounts, firstCounts, firstValues, secondCounts, secondValues, streamCounts, tableBytes, sortIn, answerOf, partBytes, kindIn, lostIn, placeOf, marks, stepBytes, stateIn, stateRefusalOf, Told};
+ghost use Rattle.controller.specs.Boundary.{inBytes, encode, headCounts, firstCounts, firstValues, secondCounts, secondValues, streamCounts, tableBytes, sortIn, answerOf, partBytes, kindIn, lostIn, placeOf, marks, stepBytes, stateIn, walkOf, stateRefusalOf, Told};
 use frame::Answer;
 use frame::Header;
 use frame::Span;
@@ -289,7 +288,7 @@ fn put_step(out: &mut [u8], item: Item, walk: State)
 // A step of the walk whose state is in the lent bytes: they then hold the advanced walk and its item. Any bytes are taken.
 #[no_mangle]
 pub extern "C" fn spindlewren_step(bytes: &[u8], walk: &mut [u8]) -> u8
-    ensures { λ r. ⌜ Told 20 (stateRefusalOf (now (walk .entry))) (stepBytes (stepAt (now (bytes .entry)) (stateIn (now (walk .entry))) .item) (stepAt (now (bytes .entry)) (stateIn (now (walk .entry))) .walk)) (now (walk .entry)) (now (walk .exit)) r ⌝ }
+    ensures { λ r. ⌜ Told 20 (stateRefusalOf (now (walk .entry))) (walkOf (now (bytes .entry)) (now (walk .entry))) (now (walk .entry)) (now (walk .exit)) r ⌝ }
 {
     if walk.len() != 20 {
         return 1;
