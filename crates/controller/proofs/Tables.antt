@@ -9,13 +9,11 @@ use lib.ListN.{length, getD, take, length-append}
 use lib.Seq.{length-take-le, take-suc}
 use Rattle.frame.specs.declared.Header.{Header}
 use Rattle.frame.specs.declared.Stream.{Stream}
-use Rattle.frame.specs.declared.Timestamp.{Timestamp}
-use Rattle.frame.specs.declared.Timestamp.the-variants.{Absent, Time}
-use Rattle.frame.specs.Answers.{timestampValues, headerValues, noStream}
-use Rattle.frame.specs.Stores.{put}
-use Rattle.frame.specs.Writing.{streamValues, timeBy}
-use Rattle.frame.proofs.Stores.{put-then, put-chain, put-all}
-use Rattle.controller.specs.Boundary.{sortIn, inBytes, encode, headCounts, firstCounts, firstValues, secondCounts, secondValues, streamCounts, tableBytes, placeOf, marks, stepBytes}
+use Rattle.frame.specs.Answers.{timestampValues, headerValues, noStream, timeBy}
+use Rattle.octets.specs.Stores.{put}
+use Rattle.frame.specs.Writing.{streamValues}
+use Rattle.octets.proofs.Storing.{put-then, put-chain, put-all}
+use Rattle.controller.specs.Boundary.{inBytes, encode, headCounts, firstCounts, firstValues, secondCounts, secondValues, streamCounts, tableBytes, placeOf, marks, stepBytes}
 use Rattle.walk.specs.declared.Item.{Item}
 use Rattle.walk.specs.declared.State.{State}
 
@@ -46,11 +44,7 @@ table-more l t i h k o =
     ∙ ap tableBytes (take-suc t i noStream (omega arith))
     ∙ bytes-append (take i t) (s ∷ [])
     ∙ ap (λ (r : List ℕ). tableBytes (take i t) ++ r) (one s) in
-    rw (d, c) (put-then l 18 (tableBytes (take i t)) (omega arith) (encode streamCounts (streamValues s)))
-
-timestamp-two : (t : Timestamp) → timestampValues t ≡ sortIn t ∷ timeBy t ∷ []
-timestamp-two Absent = refl
-timestamp-two (Time n) = refl
+    rw (d, c) (put-then l 18 (tableBytes (take i t)) (encode streamCounts (streamValues s)) (omega arith))
 
 -- the two parts and the table are the whole answer
 pub parts : (h : Header) (t : List Stream) (l a b d : List ℕ) → length l ≡ 402 → length t ≡ 64
@@ -64,7 +58,7 @@ parts h t l a b d o k pa pb pd =
     let n = bytes-length t in
     let p = put-chain l a b 0 9 A B pa pb refl (omega arith) in
     let q = put-chain l b d 0 18 (A ++ B) (tableBytes t) p pd refl (omega arith) in
-    q ∙ put-all l ((A ++ B) ++ tableBytes t) (simp length-append (omega arith)) ∙ rw (timestamp-two (h .timestamp))
+    q ∙ put-all l ((A ++ B) ++ tableBytes t) (simp length-append (omega arith))
 
 -- state and item are the whole of a walk's bytes
 pub step-stored : (x : Item) (s : State) (l a b d : List ℕ) → length l ≡ 20

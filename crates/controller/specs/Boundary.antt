@@ -8,22 +8,16 @@ use lib.ListN.{length, getD}
 use Rattle.frame.specs.declared.Header.{Header}
 use Rattle.frame.specs.declared.Span.{Span}
 use Rattle.frame.specs.declared.Stream.{Stream}
-use Rattle.frame.specs.declared.Timestamp.{Timestamp}
-use Rattle.frame.specs.declared.Timestamp.the-variants.{Absent, Time}
-use Rattle.frame.specs.Words.{wordAt}
-use Rattle.frame.specs.Frame.{pick, streamsOf}
+use Rattle.octets.specs.Words.{wordAt}
+use Rattle.octets.specs.Choice.{pick}
+use Rattle.frame.specs.Frame.{streamsOf}
 use Rattle.frame.specs.Rules.{_when_, first}
-use Rattle.frame.specs.Answers.{digit, fieldsOf, tableBy}
-use Rattle.frame.specs.Writing.{streamValues, timeBy}
+use Rattle.frame.specs.Answers.{digit, sortOf, fieldsOf, tableBy, timeBy}
+use Rattle.frame.specs.Writing.{streamValues}
 use Rattle.walk.specs.declared.Item.{Item}
 use Rattle.walk.specs.declared.Item.the-variants.{Frame, Lost, Done}
 use Rattle.walk.specs.declared.State.{State}
 use Rattle.walk.specs.Records.{stepAt}
-
--- a timestamp's sort: 0 where none is given
-abbrev pub sortIn : Timestamp → ℕ
-sortIn Absent = 0
-sortIn (Time n) = 1
 
 -- a number in n bytes, high byte first
 abbrev pub inBytes : ℕ → ℕ → List ℕ
@@ -49,7 +43,7 @@ abbrev pub secondCounts : List ℕ
 secondCounts = 2 ∷ 2 ∷ 1 ∷ 1 ∷ 3 ∷ []
 
 abbrev pub secondValues : Header → List ℕ
-secondValues h = h .mnsc ∷ h .rfu ∷ h .rfa ∷ sortIn (h .timestamp) ∷ timeBy (h .timestamp) ∷ []
+secondValues h = h .mnsc ∷ h .rfu ∷ h .rfa ∷ sortOf (h .timestamp) ∷ timeBy (h .timestamp) ∷ []
 
 -- the header's values
 abbrev pub headCounts : List ℕ

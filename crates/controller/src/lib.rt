@@ -3,12 +3,12 @@ ghost use mathlib.Core.List.{[], _∷_, _++_};
 ghost use mathlib.Core.Path.{_≡_};
 ghost use Prim.Native.Nat.{_+_, _≤_, _<_};
 ghost use lib.ListN.{length, getD};
-ghost use Rattle.frame.specs.Words.{wordAt};
-ghost use Rattle.frame.specs.Stores.{put};
+ghost use Rattle.octets.specs.Words.{wordAt};
+ghost use Rattle.octets.specs.Stores.{put};
 ghost use Rattle.frame.specs.Rules.{refusalOf, streamRefusalOf, ficPart, streamPart};
-ghost use Rattle.frame.specs.Answers.{digit, headerValues};
-ghost use Rattle.frame.specs.Writing.{streamValues, timeBy};
-ghost use Rattle.controller.specs.Boundary.{inBytes, encode, headCounts, firstCounts, firstValues, secondCounts, secondValues, streamCounts, tableBytes, sortIn, answerOf, partBytes, kindIn, lostIn, placeOf, marks, stepBytes, stateIn, walkOf, stateRefusalOf, Told};
+ghost use Rattle.frame.specs.Answers.{digit, sortOf, headerValues, timeBy};
+ghost use Rattle.frame.specs.Writing.{streamValues};
+ghost use Rattle.controller.specs.Boundary.{inBytes, encode, headCounts, firstCounts, firstValues, secondCounts, secondValues, streamCounts, tableBytes, answerOf, partBytes, kindIn, lostIn, placeOf, marks, stepBytes, stateIn, walkOf, stateRefusalOf, Told};
 use frame::Answer;
 use frame::Header;
 use frame::Span;
@@ -25,7 +25,7 @@ fn bit(b: bool) -> u8
 }
 
 fn sort(t: Timestamp) -> u8
-    ensures { λ r. ⌜ r ≡ sortIn t ⌝ }
+    ensures { λ r. ⌜ r ≡ sortOf t ⌝ }
 {
     match t {
         Timestamp::Absent => 0,

@@ -8,19 +8,10 @@ use lib.Dec.{eqb}
 use lib.ListN.{length, getD}
 use Rattle.frame.specs.declared.Fields.{Fields}
 use Rattle.frame.specs.declared.Stream.{Stream}
-use Rattle.frame.specs.declared.Timestamp.{Timestamp}
-use Rattle.frame.specs.declared.Timestamp.the-variants.{Absent, Time}
-use Rattle.frame.specs.Frame.{pick}
-use Rattle.frame.specs.Answers.{tableBy}
+use Rattle.octets.specs.Choice.{pick}
+use Rattle.octets.specs.Words.{twoAt, wordAt}
+use Rattle.frame.specs.Answers.{timestampBy, tableBy}
 use Rattle.frame.specs.Writing.{writingRefusalOf, writtenOf}
-
--- two bytes, high byte first
-unfoldable pub twoAt : List ℕ → ℕ → ℕ
-twoAt b at = getD b at 0 * 256 + getD b (at + 1) 0
-
--- sort 0: none is given
-unfoldable pub timestampBy : ℕ → ℕ → Timestamp
-timestampBy sort n = pick (eqb sort 0) Absent (Time n)
 
 -- entry i: SCID, SAD, TPL, STL
 unfoldable pub entryIn : List ℕ → ℕ → Stream
@@ -49,7 +40,7 @@ fieldsIn b =
       mnsc = twoAt b 7;
       rfu = twoAt b 9;
       rfa = getD b 11 0;
-      timestamp = timestampBy (getD b 12 0) (twoAt b 13 * 65536 + twoAt b 15);
+      timestamp = timestampBy (getD b 12 0) (wordAt b 13);
       count = getD b 4 0;
       table = tableBy (entriesTo b 64);
     }

@@ -3,25 +3,11 @@ ghost use mathlib.Core.Path.{_≡_};
 ghost use Prim.Native.Nat.{_+_, _*_, _<_};
 ghost use lib.ListN.{length};
 ghost use Rattle.sum.specs.Sum.{sumOf};
-ghost use Rattle.frame.specs.Answers.{tableBy};
-ghost use Rattle.entries.specs.Entered.{twoAt, timestampBy, entryIn, entriesTo, fieldsIn, Entered};
+ghost use Rattle.frame.specs.Answers.{tableBy, timestampBy};
+ghost use Rattle.entries.specs.Entered.{entryIn, entriesTo, fieldsIn, Entered};
 use frame::Fields;
 use frame::Stream;
 use frame::Timestamp;
-
-fn two(bytes: &[u8], at: usize) -> u16
-    requires { ⌜ at + 1 < length (now bytes) ⌝ }
-    ensures { λ r. ⌜ r ≡ twoAt (now (bytes .entry)) at ⌝ }
-{
-    bytes[at] as u16 * 256 + bytes[at + 1] as u16
-}
-
-fn four(bytes: &[u8], at: usize) -> u32
-    requires { ⌜ at + 3 < length (now bytes) ⌝ }
-    ensures { λ r. ⌜ r ≡ twoAt (now (bytes .entry)) at * 65536 + twoAt (now (bytes .entry)) (at + 2) ⌝ }
-{
-    two(bytes, at) as u32 * 65536 + two(bytes, at + 2) as u32
-}
 
 fn timestamp(sort: u8, n: u32) -> Timestamp
     ensures { λ r. ⌜ r ≡ timestampBy sort n ⌝ }
@@ -39,9 +25,9 @@ fn entry(bytes: &[u8], i: usize) -> Stream
     let at = 17 + 6 * i;
     Stream {
         scid: bytes[at],
-        sad: two(bytes, at + 1),
+        sad: octets::two(bytes, at + 1) as u16,
         tpl: bytes[at + 3],
-        stl: two(bytes, at + 4),
+        stl: octets::two(bytes, at + 4) as u16,
     }
 }
 
@@ -62,7 +48,7 @@ fn fields(bytes: &[u8]) -> Fields
     requires { ⌜ length (now bytes) ≡ 401 ⌝ }
     ensures { λ r. ⌜ r ≡ fieldsIn (now (bytes .entry)) ⌝ }
 {
-    let timestamp = timestamp(bytes[12], four(bytes, 13));
+    let timestamp = timestamp(bytes[12], octets::word(bytes, 13) as u32);
     let table = table(bytes);
     Fields {
         level: bytes[0],
@@ -71,8 +57,8 @@ fn fields(bytes: &[u8]) -> Fields
         ficf: bytes[3] != 0,
         fp: bytes[5],
         mid: bytes[6],
-        mnsc: two(bytes, 7),
-        rfu: two(bytes, 9),
+        mnsc: octets::two(bytes, 7) as u16,
+        rfu: octets::two(bytes, 9) as u16,
         rfa: bytes[11],
         timestamp,
         count: bytes[4] as usize,

@@ -1,14 +1,16 @@
--- A frame is accepted exactly when it is acceptable: none of the rules holds.
+-- A frame is accepted exactly when it is acceptable: the rules and the plain words say the same.
 -- Assumes nothing.
-use mathlib.Core.Bool.{false, not}
 use mathlib.Core.List.{List, [], _∷_}
 use mathlib.Core.Path.{_≡_, sym, _∙_}
 use Prim.Native.Nat.{ℕ, _≤_, _<_}
-use lib.Dec.{eqb, leb}
-use borrow.Author.Tests.{eq-eqb, ne-eqb, le-ltb, le-leb, lt-leb, eqb-true, eqb-false, ltb-false, leb-false, not-false}
-use Rattle.frame.specs.Frame.{nstOf}
+use lib.Dec.{leb}
+use borrow.Author.Tests.{ne-eqb, le-ltb, le-leb, lt-leb, eqb-true, eqb-false, ltb-false, leb-false, not-false}
+use Rattle.octets.proofs.Deciding.{equal}
+use Rattle.frame.specs.Frame.{errOf, fsyncOf, nstOf}
 use Rattle.frame.specs.Rules.{_when_, first, rulesOf, refusalOf, Acceptable, streamRefusalOf}
-use Rattle.frame.proofs.Rules.{NoneHold, none-hold, none-first, first-zero, first-found}
+use Rattle.frame.proofs.Places.{fsync-one, fsync-placed, status-one, status-placed}
+use Rattle.frame.proofs.Streams.{each-within, none-above}
+use Rattle.frame.proofs.FirstRule.{NoneHold, none-hold, none-first, first-zero, first-found}
 
 pub nothing : (f : List ℕ) → refusalOf f ≡ 0 → NoneHold (rulesOf f)
 unfolding refusalOf
@@ -19,36 +21,33 @@ acceptable f e =
     let p = nothing f e in
     record {
       whole = eqb-true _ _ (not-false _ (p .0));
-      synced = ltb-false _ _ (p .1 .0);
-      status = ltb-false _ _ (p .1 .1 .0);
+      synced = fsync-one (fsyncOf f) (ltb-false _ _ (p .1 .0));
+      status = status-one (errOf f) (ltb-false _ _ (p .1 .1 .0));
       carrying = eqb-false _ _ (p .1 .1 .1 .0);
       streams = ltb-false _ _ (p .1 .1 .1 .1 .0);
       headed = eqb-true _ _ (not-false _ (p .1 .1 .1 .1 .1 .0));
       counted = ltb-false _ _ (p .1 .1 .1 .1 .1 .1 .0);
-      lengths = p .1 .1 .1 .1 .1 .1 .1 .0;
+      lengths = each-within 684 f (nstOf f) (p .1 .1 .1 .1 .1 .1 .1 .0);
       formula = eqb-true _ _ (not-false _ (p .1 .1 .1 .1 .1 .1 .1 .1 .0));
       room = ltb-false _ _ (p .1 .1 .1 .1 .1 .1 .1 .1 .1 .0);
     }
-
-unequal : {a b : ℕ} → a ≡ b → not (eqb a b) ≡ false
-unequal {a} {b} e = rw (eq-eqb a b e)
 
 pub accepted : (f : List ℕ) → Acceptable f → refusalOf f ≡ 0
 unfolding refusalOf
 accepted f a =
     none-first (rulesOf f) (
-      unequal (a .whole),
+      equal (a .whole),
       (
-        le-ltb _ _ (a .synced),
+        le-ltb _ _ (fsync-placed (fsyncOf f) (a .synced)),
         (
-          le-ltb _ _ (a .status),
+          le-ltb _ _ (status-placed (errOf f) (a .status)),
           (
             ne-eqb _ _ (a .carrying),
             (
               le-ltb _ _ (a .streams),
               (
-                unequal (a .headed),
-                (le-ltb _ _ (a .counted), (a .lengths, (unequal (a .formula), (le-ltb _ _ (a .room), tt)))),
+                equal (a .headed),
+                (le-ltb _ _ (a .counted), (none-above 684 f (nstOf f) (a .lengths), (equal (a .formula), (le-ltb _ _ (a .room), tt)))),
               ),
             ),
           ),

@@ -10,12 +10,13 @@ use lib.Dec.{ltb}
 use lib.ListN.{length, getD, take, length-append}
 use lib.Seq.{take-suc}
 use Rattle.frame.specs.declared.Stream.{Stream}
-use Rattle.frame.specs.Words.{split, join, bytes4}
+use Rattle.octets.specs.Words.{split, join, bytes4}
 use Rattle.frame.specs.Frame.{sstcWidths, stlTotal}
 use Rattle.frame.specs.Rules.{someStlAbove}
 use Rattle.frame.specs.Answers.{noStream}
 use Rattle.frame.specs.Writing.{someWider, streamValues, someStreamWider, streamsBytes}
-use Rattle.frame.proofs.Streams.{or-assoc, or-false, total-append, some-append}
+use Rattle.octets.proofs.Deciding.{or-assoc, or-false}
+use Rattle.frame.proofs.Streams.{total-append, some-append}
 
 wider-append : (ss ts : List Stream) → someStreamWider (ss ++ ts) ≡ (someStreamWider ss || someStreamWider ts)
 unfolding someStreamWider

@@ -1,10 +1,9 @@
 pub mod Accepting
-pub mod Answers
 pub mod Entries
-pub mod Parts
+pub mod FirstRule
+pub mod Fixed
+pub mod Headers
 pub mod Places
-pub mod Rules
-pub mod Stores
 pub mod Streams
-pub mod Tests
-pub mod Words
+pub mod Tiling
+pub mod Timestamps

@@ -1,9 +1,12 @@
 -- The entries of a table, one more at a time.
 -- Assumes nothing.
-use mathlib.Core.Bool.{Bool, true, false, _||_}
+use mathlib.Core.Bool.{false, _||_}
 use mathlib.Core.List.{List, [], _∷_, _++_}
-use mathlib.Core.Path.{_≡_, refl, ap}
-use Prim.Native.Nat.{ℕ, zero, suc, _+_, _-_, _<_}
+use mathlib.Core.Logic.{⊎-elim}
+use mathlib.Core.Path.{_≡_, refl, sym, ap, _∙_}
+use Prim.Native.Nat.{ℕ, zero, suc, _+_, _-_, _<_, _≤_}
+use native.Mathlib.Nat.{eq-or-lt-of-le, le-of-suc-le-suc}
+use borrow.Author.Tests.{le-ltb, ltb-false}
 use native.Mathlib.Numerals.{add-one}
 use native.Mathlib.Omega.{arith}
 use lib.Dec.{ltb}
@@ -13,6 +16,7 @@ use Rattle.frame.specs.declared.Stream.{Stream}
 use Rattle.frame.specs.Frame.{streamOf, streamsTo, stlTotal}
 use Rattle.frame.specs.Rules.{someStlAbove}
 use Rattle.frame.specs.Answers.{noStream, tableBy}
+use Rattle.octets.proofs.Deciding.{or-assoc, or-false, neither}
 
 pub streams-more : (f : List ℕ) (n : ℕ) → streamsTo f (n + 1) ≡ streamsTo f n ++ (streamOf f n ∷ [])
 unfolding streamsTo
@@ -32,22 +36,29 @@ pub total-more : (f : List ℕ) (n : ℕ) → stlTotal (streamsTo f (n + 1)) ≡
 unfolding stlTotal
 total-more f n = rw (streams-more f n, total-append) (omega arith)
 
-pub or-assoc : (a b c : Bool) → ((a || b) || c) ≡ (a || (b || c))
-or-assoc true b c = refl
-or-assoc false b c = refl
-
 pub some-append : (m : ℕ) (ss ts : List Stream) → someStlAbove m (ss ++ ts) ≡ (someStlAbove m ss || someStlAbove m ts)
 unfolding someStlAbove
 some-append m [] ts = refl
 some-append m (s ∷ ss) ts = rw (some-append m ss ts, or-assoc)
 
-pub or-false : (a : Bool) → (a || false) ≡ a
-or-false true = refl
-or-false false = refl
-
 pub some-more : (m : ℕ) (f : List ℕ) (n : ℕ) → someStlAbove m (streamsTo f (n + 1)) ≡ (someStlAbove m (streamsTo f n) || ltb m (streamOf f n .stl))
 unfolding someStlAbove
 some-more m f n = rw (streams-more f n, some-append, or-false)
+
+-- none of the first n STLs is above m, told at once and one by one
+pub each-within : (m : ℕ) (f : List ℕ) (n : ℕ) → someStlAbove m (streamsTo f n) ≡ false → (i : ℕ) → i < n → streamOf f i .stl ≤ m
+each-within m f zero e i h = absurd (omega arith)
+each-within m f (suc n) e i h =
+    let p = neither (someStlAbove m (streamsTo f n)) (ltb m (streamOf f n .stl)) (sym (some-more m f n) ∙ ap (λ (k : ℕ). someStlAbove m (streamsTo f k)) (add-one n) ∙ e) in
+    ⊎-elim (λ (q : i ≡ n). rw q (ltb-false m (streamOf f n .stl) (p .1))) (λ (l : i < n). each-within m f n (p .0) i l) (eq-or-lt-of-le (le-of-suc-le-suc h))
+
+pub none-above : (m : ℕ) (f : List ℕ) (n : ℕ) → ((i : ℕ) → i < n → streamOf f i .stl ≤ m) → someStlAbove m (streamsTo f n) ≡ false
+unfolding someStlAbove streamsTo
+none-above m f zero h = refl
+none-above m f (suc n) h =
+    ap (λ (k : ℕ). someStlAbove m (streamsTo f k)) (sym (add-one n))
+    ∙ some-more m f n
+    ∙ rw (none-above m f n (λ i l. h i (omega arith)), le-ltb m (streamOf f n .stl) (h n (omega arith)))
 
 -- a store of the next entry makes the table of one entry more
 pub table-more : (ss : List Stream) (s : Stream) → length ss < 64 → set (tableBy ss) (length ss) s ≡ tableBy (ss ++ (s ∷ []))

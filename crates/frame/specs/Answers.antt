@@ -15,13 +15,29 @@ use Rattle.frame.specs.declared.Span.{Span}
 use Rattle.frame.specs.declared.Stream.{Stream}
 use Rattle.frame.specs.declared.Timestamp.{Timestamp}
 use Rattle.frame.specs.declared.Timestamp.the-variants.{Absent, Time}
-use Rattle.frame.specs.Frame.{pick, placeIn, fsyncs, fsyncOf, fctOf, ficfOf, nstOf, fpOf, midOf, flOf, streamsOf, cut, mnscOf, rfuOf, rfaOf, timeOf, levelOf}
+use Rattle.octets.specs.Choice.{pick, placeIn}
+use Rattle.frame.specs.Frame.{fsyncs, fsyncOf, fctOf, ficfOf, nstOf, fpOf, midOf, flOf, streamsOf, cut, mnscOf, rfuOf, rfaOf, timeOf, levelOf}
 use Rattle.frame.specs.Rules.{refusalOf}
 
--- annex C.2: the sort, 0 where no timestamp is given and 1 for a time, and the number
+-- annex C.2: a timestamp's sort, 0 where none is given and 1 for a time, and its number, FFFFFF where none is given
+abbrev pub sortOf : Timestamp → ℕ
+sortOf Absent = 0
+sortOf (Time n) = 1
+
+abbrev pub timeBy : Timestamp → ℕ
+timeBy Absent = 0xFFFFFF
+timeBy (Time n) = n
+
 abbrev pub timestampValues : Timestamp → List ℕ
-timestampValues Absent = 0 ∷ 0xFFFFFF ∷ []
-timestampValues (Time n) = 1 ∷ n ∷ []
+timestampValues t = sortOf t ∷ timeBy t ∷ []
+
+-- the timestamp of a sort and a number
+unfoldable pub timestampBy : ℕ → ℕ → Timestamp
+timestampBy sort n = pick (eqb sort 0) Absent (Time n)
+
+-- the timestamp of the 24 bits: FFFFFF means that none is given, every other number is a time
+unfoldable pub timestampFor : ℕ → Timestamp
+timestampFor n = pick (eqb n 0xFFFFFF) Absent (Time n)
 
 abbrev pub headerValues : Header → List ℕ
 headerValues h =
@@ -37,13 +53,27 @@ valuesOf (Accepted h) = headerValues h
 valuesOf (Refused n) = []
 
 -- ---- what a frame's answer is to be
--- FFFFFF means that no timestamp is given, every other number is a time
-unfoldable pub timestampIn : ℕ → List ℕ
-timestampIn n = pick (eqb n 0xFFFFFF) (0 ∷ n ∷ []) (1 ∷ n ∷ [])
-
 unfoldable pub fieldsOf : List ℕ → List ℕ
 fieldsOf f =
-    levelOf f ∷ placeIn fsyncs (fsyncOf f) ∷ fctOf f ∷ ficfOf f ∷ nstOf f ∷ fpOf f ∷ midOf f ∷ flOf f ∷ mnscOf f ∷ rfuOf f ∷ rfaOf f ∷ timestampIn (timeOf f)
+    levelOf f ∷ placeIn fsyncs (fsyncOf f) ∷ fctOf f ∷ ficfOf f ∷ nstOf f ∷ fpOf f ∷ midOf f ∷ flOf f ∷ mnscOf f ∷ rfuOf f ∷ rfaOf f ∷ timestampValues (timestampFor (timeOf f))
+
+-- the header of a frame, as a value
+unfoldable pub headerFor : List ℕ → Header
+headerFor f =
+    record {
+      level = levelOf f;
+      fsync1 = eqb (placeIn fsyncs (fsyncOf f)) 1;
+      fct = fctOf f;
+      ficf = eqb (ficfOf f) 1;
+      nst = nstOf f;
+      fp = fpOf f;
+      mid = midOf f;
+      fl = flOf f;
+      mnsc = mnscOf f;
+      rfu = rfuOf f;
+      rfa = rfaOf f;
+      timestamp = timestampFor (timeOf f);
+    }
 
 abbrev pub noStream : Stream
 noStream = record { scid = 0; sad = 0; tpl = 0; stl = 0 }

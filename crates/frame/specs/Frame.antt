@@ -9,16 +9,8 @@ use lib.ListN.{length, getD, take, drop}
 use Rattle.sum.specs.Sum.{sumOf}
 use Rattle.frame.specs.declared.Span.{Span}
 use Rattle.frame.specs.declared.Stream.{Stream}
-use Rattle.frame.specs.Words.{split, wordAt}
-
-abbrev pub pick : {A : Type 0} → Bool → A → A → A
-pick true a b = a
-pick false a b = b
-
--- the place of n in a list, and the list's length where n is not in it
-abbrev pub placeIn : List ℕ → ℕ → ℕ
-placeIn [] n = 0
-placeIn (x ∷ xs) n = pick (eqb n x) 0 (suc (placeIn xs n))
+use Rattle.octets.specs.Choice.{pick, placeIn}
+use Rattle.octets.specs.Words.{split, wordAt}
 
 -- the bytes from a up to e
 abbrev pub between : List ℕ → ℕ → ℕ → List ℕ

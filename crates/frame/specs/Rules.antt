@@ -2,15 +2,17 @@
 -- Assumes nothing.
 use mathlib.Core.Bool.{Bool, false, not, _||_}
 use mathlib.Core.List.{List, [], _∷_, _++_}
+use mathlib.Core.Logic.{_⊎_}
 use mathlib.Core.Path.{_≡_}
-use Prim.Native.Nat.{ℕ, _≤_}
+use Prim.Native.Nat.{ℕ, _+_, _*_, _≤_, _<_}
 use lib.Dec.{eqb, ltb, leb}
 use lib.ListN.{length}
 use Rattle.sum.specs.Sum.{sumOf}
 use Rattle.frame.specs.declared.Span.{Span}
 use Rattle.frame.specs.declared.Stream.{Stream}
-use Rattle.frame.specs.Words.{wordAt}
-use Rattle.frame.specs.Frame.{pick, placeIn, statuses, errOf, fsyncs, fsyncOf, fctOf, nstOf, flOf, ficlOf, streamsOf, stlTotal, flBy, headerBytesOf, headerSumOf, mainSpan, ficSpan, streamSpan}
+use Rattle.octets.specs.Words.{wordAt}
+use Rattle.octets.specs.Choice.{pick, placeIn}
+use Rattle.frame.specs.Frame.{statuses, errOf, fsyncs, fsyncOf, fctOf, nstOf, flOf, ficlOf, streamOf, streamsOf, stlTotal, flBy, headerBytesOf, headerSumOf, mainSpan, ficSpan, streamSpan}
 
 -- a rule: the refusal's number, and whether its condition holds
 infix 20 _when_
@@ -44,17 +46,17 @@ rulesOf f =
 unfoldable pub refusalOf : List ℕ → ℕ
 refusalOf f = first (rulesOf f)
 
--- none of the rules holds, in plain words
+-- an acceptable frame, in plain words: the sync word is the one or the other, the status byte one of the four, FC is not all ones, ..
 pub record Acceptable (f : List ℕ) : Type 0 where
   pub whole : length f ≡ 6144
-  pub synced : placeIn fsyncs (fsyncOf f) ≤ 1
-  pub status : placeIn statuses (errOf f) ≤ 3
+  pub synced : (fsyncOf f ≡ 0x073AB6) ⊎ (fsyncOf f ≡ 0xF8C549)
+  pub status : (errOf f ≡ 0xFF) ⊎ ((errOf f ≡ 0xF0) ⊎ ((errOf f ≡ 0x0F) ⊎ (errOf f ≡ 0x00)))
   pub carrying : wordAt f 4 ≡ 0xFFFFFFFF → ⊥
   pub streams : nstOf f ≤ 64
   pub headed : sumOf (headerBytesOf f) ≡ headerSumOf f
   pub counted : fctOf f ≤ 249
-  pub lengths : someStlAbove 684 (streamsOf f) ≡ false
-  pub formula : flOf f ≡ flBy (nstOf f) (ficlOf f) (stlTotal (streamsOf f))
+  pub lengths : (i : ℕ) → i < nstOf f → streamOf f i .stl ≤ 684
+  pub formula : flOf f ≡ nstOf f + 1 + ficlOf f + 2 * stlTotal (streamsOf f)
   pub room : flOf f ≤ 1532
 
 -- a request for stream i: reading's refusal first, then 13

@@ -11,10 +11,11 @@ use Rattle.frame.specs.declared.Fields.{Fields}
 use Rattle.frame.specs.declared.Stream.{Stream}
 use Rattle.frame.specs.declared.Timestamp.{Timestamp}
 use Rattle.frame.specs.declared.Timestamp.the-variants.{Absent, Time}
-use Rattle.frame.specs.Words.{split, join, bytes2, bytes4}
-use Rattle.frame.specs.Frame.{pick, syncWidths, statusBy, fsyncBy, fcWidths, flOf, ficlBy, sstcWidths, stlTotal, flBy, mainOf, mainSumOf, tistWidths, carriedBy}
+use Rattle.octets.specs.Words.{split, join, bytes2, bytes4}
+use Rattle.octets.specs.Choice.{pick}
+use Rattle.frame.specs.Frame.{syncWidths, statusBy, fsyncBy, fcWidths, flOf, ficlBy, sstcWidths, stlTotal, flBy, mainOf, mainSumOf, tistWidths, carriedBy}
 use Rattle.frame.specs.Rules.{Rule, _when_, first, someStlAbove}
-use Rattle.frame.specs.Answers.{digit, timestampValues}
+use Rattle.frame.specs.Answers.{digit, timeBy, timestampValues}
 
 -- the entries that have effect: those below the count, of all 64
 abbrev pub entriesOf : Fields → List Stream
@@ -75,11 +76,6 @@ writingRefusalOf x main out = first (writingRulesOf x main out)
 unfoldable pub streamsBytes : List Stream → List ℕ
 streamsBytes [] = []
 streamsBytes (s ∷ ss) = split bytes4 (join sstcWidths (streamValues s)) ++ streamsBytes ss
-
--- annex C.2: FFFFFF where no timestamp is given
-abbrev pub timeBy : Timestamp → ℕ
-timeBy Absent = 0xFFFFFF
-timeBy (Time n) = n
 
 -- figure 6, SYNC
 unfoldable pub syncIn : Fields → List ℕ

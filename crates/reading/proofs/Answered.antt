@@ -10,11 +10,10 @@ use Rattle.frame.specs.declared.Header.{Header}
 use Rattle.frame.specs.declared.Reading.{Reading}
 use Rattle.frame.specs.Frame.{streamsOf}
 use Rattle.frame.specs.Rules.{refusalOf}
-use Rattle.frame.specs.Answers.{numberOf, valuesOf, headerValues, fieldsOf, tableBy, Reads}
+use Rattle.frame.specs.Answers.{numberOf, valuesOf, headerValues, fieldsOf, tableBy, Reads, headerFor}
 use Rattle.frame.proofs.Accepting.{acceptable}
-use Rattle.frame.proofs.Answers.{answer-fixed}
-use Rattle.reading.specs.Steps.{headerFor}
-use Rattle.reading.proofs.Answering.{header-values}
+use Rattle.frame.proofs.Fixed.{answer-fixed}
+use Rattle.frame.proofs.Headers.{header-values}
 
 module _ (f : List ℕ) (r : Reading) (reads : Reads f r) where
   -- accepted: the frame is, and the header is its header

@@ -6,8 +6,8 @@ use Prim.Native.Nat.{ℕ}
 use borrow.Author.Tests.{eq-eqb}
 use lib.ListN.{length}
 use Rattle.frame.specs.Rules.{first, refusalOf}
-use Rattle.frame.proofs.Rules.{none-hold, first-zero, first-found}
-use Rattle.reading.specs.Steps.{headRulesOf, bodyRulesOf}
+use Rattle.frame.proofs.FirstRule.{none-hold, first-zero, first-found}
+use Rattle.reading.specs.JudgeClauses.{headRulesOf, bodyRulesOf}
 
 module _ (f : List ℕ) (whole : length f ≡ 6144) where
   parts : refusalOf f ≡ first (headRulesOf f ++ bodyRulesOf f)

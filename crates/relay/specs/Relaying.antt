@@ -9,11 +9,11 @@ use lib.ListN.{length}
 use Rattle.frame.specs.declared.Fields.{Fields}
 use Rattle.frame.specs.declared.Header.{Header}
 use Rattle.frame.specs.declared.Stream.{Stream}
-use Rattle.frame.specs.Frame.{pick, streamsOf, mainOf}
+use Rattle.octets.specs.Choice.{pick}
+use Rattle.frame.specs.Frame.{streamsOf, mainOf}
 use Rattle.frame.specs.Rules.{_when_, first, rulesOf}
-use Rattle.frame.specs.Answers.{tableBy}
+use Rattle.frame.specs.Answers.{tableBy, headerFor}
 use Rattle.frame.specs.Writing.{frameIn, Clean}
-use Rattle.reading.specs.Steps.{headerFor}
 
 -- the header and the table that reading handed out, as writing takes them
 abbrev pub fieldsWith : Header → List Stream → Fields

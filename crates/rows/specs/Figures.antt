@@ -6,7 +6,7 @@ use Prim.Native.Nat.{ℕ, _+_, _-_}
 use lib.ListN.{replicate}
 use Rattle.sum.specs.Sum.{sumOf}
 use Rattle.frame.specs.declared.Span.{Span}
-use Rattle.frame.specs.Words.{split, join, bytes4}
+use Rattle.octets.specs.Words.{split, join, bytes4}
 use Rattle.frame.specs.Frame.{fcWidths, ficlBy, sstcWidths, flBy, ficSpan, streamSpan, carriedBy, levelBy}
 
 infix 20 _gives_

@@ -4,8 +4,9 @@ use mathlib.Core.List.{List, _∷_}
 use mathlib.Core.Path.{_≡_}
 use Prim.Native.Nat.{ℕ}
 use Rattle.frame.specs.declared.Fields.{Fields}
-use Rattle.frame.specs.Frame.{placeIn, fsyncs, fsyncOf, fctOf, ficfOf, nstOf, fpOf, midOf, flOf, mnscOf, rfuOf, rfaOf, timeOf, levelOf}
-use Rattle.frame.specs.Answers.{digit, timestampIn, timestampValues, fieldsOf}
+use Rattle.octets.specs.Choice.{placeIn}
+use Rattle.frame.specs.Frame.{fsyncs, fsyncOf, fctOf, ficfOf, nstOf, fpOf, midOf, flOf, mnscOf, rfuOf, rfaOf, timeOf, levelOf}
+use Rattle.frame.specs.Answers.{digit, timestampValues, timestampFor, fieldsOf}
 use Rattle.frame.specs.Writing.{flIn, valuesIn}
 
 pub record Agree (f : List ℕ) (x : Fields) : Type 0 where
@@ -20,7 +21,7 @@ pub record Agree (f : List ℕ) (x : Fields) : Type 0 where
   pub mnsc : mnscOf f ≡ x .mnsc
   pub rfu : rfuOf f ≡ x .rfu
   pub rfa : rfaOf f ≡ x .rfa
-  pub timestamp : timestampIn (timeOf f) ≡ timestampValues (x .timestamp)
+  pub timestamp : timestampValues (timestampFor (timeOf f)) ≡ timestampValues (x .timestamp)
 
 pub agree : (f : List ℕ) (x : Fields) → fieldsOf f ≡ valuesIn x → Agree f x
 unfolding fieldsOf valuesIn

@@ -9,7 +9,7 @@ use Rattle.frame.specs.declared.Fields.{Fields}
 use Rattle.frame.specs.declared.Answer.the-variants.{Accepted}
 use Rattle.frame.specs.declared.Header.{Header}
 use Rattle.frame.specs.Writing.{entriesOf, flIn, valuesIn, wider, writingRefusalOf, syncIn, headerIn, endIn, frameIn}
-use Rattle.frame.proofs.Answers.{answer-fixed}
+use Rattle.frame.proofs.Fixed.{answer-fixed}
 
 -- the header that has the values of x, which fix it
 abbrev headed : Fields → Header

@@ -11,12 +11,13 @@ use Rattle.sum.specs.Sum.{sumOf}
 use Rattle.sum.proofs.Laws.{sum-lt}
 use Rattle.frame.specs.declared.Fields.{Fields}
 use Rattle.frame.specs.declared.Stream.{Stream}
-use Rattle.frame.specs.Words.{split, join, Fit, bytes2, bytes4, wordAt}
+use Rattle.octets.specs.Words.{split, join, Fit, bytes2, bytes4, wordAt}
 use Rattle.frame.specs.Frame.{syncWidths, statusBy, fsyncBy, fcWidths, sstcWidths, eohWidths, eofWidths, tistWidths, carriedBy}
-use Rattle.frame.specs.Writing.{entriesOf, flIn, streamValues, streamsBytes, timeBy, syncIn, headerIn, endIn, frameIn}
-use Rattle.frame.specs.Answers.{digit, noStream}
+use Rattle.frame.specs.Writing.{entriesOf, flIn, streamValues, streamsBytes, syncIn, headerIn, endIn, frameIn}
+use Rattle.frame.specs.Answers.{timeBy, digit, noStream}
+use Rattle.frame.proofs.Entries.{bytes-append, bytes-length}
 use Rattle.trips.proofs.Writable.{AllFit}
-use Rattle.frame.proofs.Words.{join-split, split-fit, split-join, join-lt}
+use Rattle.octets.proofs.SplitJoin.{join-split, split-fit, split-join, join-lt}
 
 -- the four bytes of a word, and the two of half a word
 unfoldable pub four : ℕ → List ℕ
@@ -52,16 +53,6 @@ word-there xs ys w p l h =
     (join-split bytes4 w h)
 
 -- ---- the entries' bytes
-bytes-append : (ss ts : List Stream) → streamsBytes (ss ++ ts) ≡ streamsBytes ss ++ streamsBytes ts
-unfolding streamsBytes
-bytes-append [] ts = refl
-bytes-append (s ∷ ss) ts = rw (bytes-append ss ts)
-
-bytes-length : (ss : List Stream) → length (streamsBytes ss) ≡ 4 * length ss
-unfolding streamsBytes
-bytes-length [] = refl
-bytes-length (s ∷ ss) = rw (bytes-length ss) (omega arith)
-
 bytes-one : (s : Stream) → streamsBytes (s ∷ []) ≡ four (join sstcWidths (streamValues s))
 unfolding streamsBytes four
 bytes-one s = refl

@@ -4,6 +4,6 @@ pub mod Laid
 pub mod OneFrame
 pub mod Pieces
 pub mod ReadWritable
-pub mod Words
+pub mod Fitting
 pub mod Writable
 pub mod Written

@@ -7,28 +7,30 @@ use native.Mathlib.Omega.{arith}
 use lib.ListN.{take, drop, replicate}
 use Rattle.sum.specs.Sum.{sumOf}
 use Rattle.frame.specs.declared.Fields.{Fields}
-use Rattle.frame.specs.Words.{join, wordAt}
+use Rattle.octets.specs.Words.{join, wordAt}
 use Rattle.frame.specs.Frame.{statuses, statusBy, fsyncs, fsyncBy, syncWidths, errOf, fsyncOf, fcWidths, nstOf, flOf, streamsOf, eohWidths, headerBytesOf, headerSumOf, mnscOf, mainEnd, mainOf, eofWidths, tistWidths, timeOf, carriedBy}
 use Rattle.frame.specs.Rules.{refusalOf, Acceptable}
-use Rattle.frame.specs.Answers.{digit, fieldsOf}
-use Rattle.frame.specs.Writing.{entriesOf, valuesIn, timeBy, streamsBytes, headerIn, frameIn, Bytes, Clean}
+use Rattle.frame.specs.Answers.{digit, timeBy, timestampFor, fieldsOf}
+use Rattle.frame.specs.Writing.{entriesOf, valuesIn, streamsBytes, headerIn, frameIn, Bytes, Clean}
 use Rattle.frame.proofs.Accepting.{acceptable}
-use Rattle.frame.proofs.Places.{at-place}
+use Rattle.frame.proofs.Places.{status-placed, fsync-placed}
+use Rattle.frame.proofs.Timestamps.{timestamp-fixed, time-kept}
+use Rattle.octets.proofs.Deciding.{at-place}
 use Rattle.frame.proofs.Streams.{streams-length}
 use Rattle.trips.proofs.Agree.{Agree, agree}
 use Rattle.trips.proofs.Laid.{four, two, two-length, halves, laid, header-of, fcValues, header-laid, laidIn, frame-laid}
 use Rattle.trips.proofs.Pieces.{sync-word, fc-word, eoh-word, eof-word, tist-word, pieces}
-use Rattle.trips.proofs.Words.{clean-level, time-carried, header-sum-lt, plain-fit}
+use Rattle.trips.proofs.Fitting.{clean-level, header-sum-lt, plain-fit}
 
 module _ (f : List ℕ) (a : Acceptable f) (b : Bytes f) (k : Clean f) (x : Fields) (g : Agree f x) (s : streamsOf f ≡ entriesOf x) where
   status : errOf f ≡ statusBy (x .level)
-  status = sym (at-place statuses (errOf f) (omega (arith, a .status))) ∙ ap statusBy (sym (clean-level f k) ∙ g .level)
+  status = sym (at-place statuses (errOf f) (omega (arith, status-placed (errOf f) (a .status)))) ∙ ap statusBy (sym (clean-level f k) ∙ g .level)
 
   which : fsyncOf f ≡ fsyncBy (digit (x .fsync1))
-  which = sym (at-place fsyncs (fsyncOf f) (omega (arith, a .synced))) ∙ ap fsyncBy (g .fsync)
+  which = sym (at-place fsyncs (fsyncOf f) (omega (arith, fsync-placed (fsyncOf f) (a .synced)))) ∙ ap fsyncBy (g .fsync)
 
   time : timeOf f ≡ timeBy (x .timestamp)
-  time = time-carried (timeOf f) (x .timestamp) (g .timestamp)
+  time = sym (time-kept (timeOf f)) ∙ ap timeBy (timestamp-fixed (timestampFor (timeOf f)) (x .timestamp) (g .timestamp))
 
   fc : wordAt f 4 ≡ join fcWidths (fcValues x)
   fc = fc-word f b ∙ (λ i. join fcWidths (g .fct i ∷ g .ficf i ∷ g .nst i ∷ g .fp i ∷ g .mid i ∷ g .fl i ∷ []))

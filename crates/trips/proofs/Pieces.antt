@@ -7,11 +7,11 @@ use native.Mathlib.Numerals.{add-one}
 use native.Mathlib.Omega.{arith}
 use lib.ListN.{length, getD, take, drop, take-append-drop}
 use lib.Seq.{drop-cons, drop-drop}
-use Rattle.frame.specs.Words.{join, bytes4, wordAt}
+use Rattle.octets.specs.Words.{join, bytes4, wordAt}
 use Rattle.frame.specs.Frame.{syncWidths, errOf, fsyncOf, fcWidths, fctOf, ficfOf, nstOf, fpOf, midOf, flOf, sstcWidths, streamOf, streamsTo, streamsOf, eohWidths, mnscOf, headerSumOf, mainStart, mainEnd, mainOf, eofWidths, mainSumOf, rfuOf, tistWidths, rfaOf, timeOf, carriedBy}
 use Rattle.frame.specs.Rules.{Acceptable}
 use Rattle.frame.specs.Writing.{streamValues, streamsBytes, Bytes}
-use Rattle.frame.proofs.Words.{join-split, split-join, join-lt}
+use Rattle.octets.proofs.SplitJoin.{join-split, split-join, join-lt}
 use Rattle.trips.proofs.Laid.{four, bytes-more, laid}
 
 module _ (f : List ℕ) (b : Bytes f) where

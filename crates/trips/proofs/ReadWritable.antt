@@ -7,21 +7,24 @@ use Prim.Native.Nat.{ℕ, zero, suc, _+_, _*_, _^_, _<_, _≤_}
 use native.Mathlib.Omega.{arith}
 use lib.Dec.{eqb}
 use lib.ListN.{length, length-take, length-drop}
-use borrow.Author.Tests.{eqb-false, lt-leb}
 use Rattle.sum.specs.Sum.{sumOf}
 use Rattle.frame.specs.declared.Fields.{Fields}
 use Rattle.frame.specs.declared.Stream.{Stream}
 use Rattle.frame.specs.declared.Timestamp.{Timestamp}
-use Rattle.frame.specs.declared.Timestamp.the-variants.{Absent, Time}
-use Rattle.frame.specs.Words.{Fit, wordAt}
-use Rattle.frame.specs.Frame.{pick, placeIn, statuses, errOf, nstOf, flOf, ficlBy, ficlOf, sstcWidths, streamOf, streamsTo, streamsOf, stlTotal, mainOf, mainSumOf, tistWidths, timeOf, levelBy, levelOf}
+use Rattle.octets.specs.Words.{Fit, wordAt}
+use Rattle.octets.specs.Choice.{placeIn}
+use Rattle.frame.specs.Frame.{statuses, errOf, nstOf, flOf, ficlBy, ficlOf, sstcWidths, streamOf, streamsTo, streamsOf, stlTotal, mainOf, mainSumOf, tistWidths, timeOf, levelBy, levelOf}
 use Rattle.frame.specs.Rules.{someStlAbove, refusalOf, Acceptable}
-use Rattle.frame.specs.Answers.{timestampIn, timestampValues, fieldsOf}
+use Rattle.frame.specs.Answers.{timestampFor, fieldsOf}
 use Rattle.frame.specs.Writing.{entriesOf, valuesIn, timeWider, streamValues, writingRefusalOf}
 use Rattle.frame.proofs.Accepting.{acceptable}
-use Rattle.frame.proofs.Words.{split-fit}
+use Rattle.frame.proofs.Headers.{time-of-lt}
+use Rattle.frame.proofs.Places.{status-placed}
+use Rattle.frame.proofs.Streams.{none-above}
+use Rattle.frame.proofs.Timestamps.{timestamp-fixed, time-carried}
+use Rattle.octets.proofs.SplitJoin.{split-fit}
 use Rattle.trips.proofs.Agree.{Agree, agree}
-use Rattle.trips.proofs.Words.{plain-fit}
+use Rattle.trips.proofs.Fitting.{plain-fit}
 use Rattle.trips.proofs.Writable.{AllFit, Writable, unrefused}
 
 -- the level handed on is one of 0 to 3
@@ -44,20 +47,6 @@ unfolding streamsTo
 entries-fit f zero = tt
 entries-fit f (suc n) = fit-more (streamsTo f n) (streamOf f n) (entries-fit f n) (entry-fit f n)
 
--- ---- a time that is read is below FFFFFF
-time-lt : (f : List ℕ) → timeOf f < 2 ^ 24
-unfolding timeOf
-time-lt f = split-fit tistWidths (wordAt f (4 + (flOf f + 2) * 4)) .1 .0
-
-time-read : (n : ℕ) (t : Timestamp) → n < 2 ^ 24 → timestampIn n ≡ timestampValues t → timeWider t ≡ false
-unfolding timestampIn
-time-read n Absent h e = refl
-time-read n (Time k) h e = go (eqb n 0xFFFFFF) refl e
-  where
-    go : (b : Bool) → eqb n 0xFFFFFF ≡ b → pick b (0 ∷ n ∷ []) (1 ∷ n ∷ []) ≡ 1 ∷ k ∷ [] → timeWider (Time k) ≡ false
-    go true d p = let z : _≡_ {A = ℕ} 0 1 = cc in absurd (omega arith)
-    go false d p = let q : n ≡ k = cc in lt-leb 0xFFFFFF k (omega (arith, eqb-false n 0xFFFFFF d))
-
 -- the main stream of an accepted frame is as long as its FIC and streams
 main-length : (f : List ℕ) → Acceptable f → length (mainOf f) ≡ 4 * ficlOf f + 8 * stlTotal (streamsOf f)
 main-length f a = simp (length-take, length-drop) (omega (arith, a .whole, a .formula, a .room))
@@ -67,13 +56,13 @@ module _ (f : List ℕ) (a : Acceptable f) (x : Fields) (g : Agree f x) (s : str
   unfolding levelOf
   read-writable =
       record {
-        level = rw (g .level) at (level-le (placeIn statuses (errOf f)) (eqb (sumOf (mainOf f)) (mainSumOf f)) (a .status));
+        level = rw (g .level) at (level-le (placeIn statuses (errOf f)) (eqb (sumOf (mainOf f)) (mainSumOf f)) (status-placed (errOf f) (a .status)));
         plain = let p = plain-fit f in omega arith;
-        time = time-read (timeOf f) (x .timestamp) (time-lt f) (g .timestamp);
+        time = subst (λ (t : Timestamp). timeWider t ≡ false) (timestamp-fixed (timestampFor (timeOf f)) (x .timestamp) (g .timestamp)) (time-carried (timeOf f) (time-of-lt f));
         entries = subst AllFit s (entries-fit f (nstOf f));
         streams = omega (arith, a .streams, g .nst);
         counted = omega (arith, a .counted, g .fct);
-        lengths = ap (someStlAbove 684) (sym s) ∙ a .lengths;
+        lengths = ap (someStlAbove 684) (sym s) ∙ none-above 684 f (nstOf f) (a .lengths);
         room = omega (arith, a .room, g .fl);
         whole = main-length f a ∙ ap₂ (λ (j k : ℕ). 4 * j + 8 * k) (ap₂ ficlBy (g .ficf) (g .mid)) (ap stlTotal s);
       }

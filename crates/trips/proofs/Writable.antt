@@ -1,21 +1,22 @@
 -- The fields that writing accepts, in plain words: none of its rules holds.
 -- Assumes nothing.
-use mathlib.Core.Bool.{Bool, true, false, not, _||_}
+use mathlib.Core.Bool.{false}
 use mathlib.Core.List.{List, [], _∷_}
 use mathlib.Core.Path.{_≡_, refl}
 use Prim.Native.Nat.{ℕ, _+_, _*_, _^_, _≤_}
 use native.Mathlib.Nat.{suc-inj}
 use native.Mathlib.Omega.{arith}
-use lib.Dec.{eqb, leb}
+use lib.Dec.{leb}
 use lib.ListN.{length}
-use borrow.Author.Tests.{eq-eqb, le-ltb, lt-leb, eqb-true, ltb-false, leb-false, not-false}
+use borrow.Author.Tests.{le-ltb, lt-leb, eqb-true, ltb-false, leb-false, not-false}
 use Rattle.frame.specs.declared.Fields.{Fields}
 use Rattle.frame.specs.declared.Stream.{Stream}
-use Rattle.frame.specs.Words.{Fit}
+use Rattle.octets.specs.Words.{Fit}
 use Rattle.frame.specs.Frame.{sstcWidths, stlTotal}
 use Rattle.frame.specs.Rules.{someStlAbove}
 use Rattle.frame.specs.Writing.{entriesOf, ficlIn, flIn, someWider, timeWider, streamValues, someStreamWider, wider, writingRulesOf, writingRefusalOf}
-use Rattle.frame.proofs.Rules.{NoneHold, none-hold, none-first}
+use Rattle.octets.proofs.Deciding.{equal, neither}
+use Rattle.frame.proofs.FirstRule.{NoneHold, none-hold, none-first}
 
 -- the widths of FCT, FP, MID, MNSC, Rfu, Rfa, and these values
 abbrev pub plainWidths : List ℕ
@@ -40,10 +41,6 @@ pub record Writable (x : Fields) (main : ℕ) : Type 0 where
   pub lengths : someStlAbove 684 (entriesOf x) ≡ false
   pub room : flIn x ≤ 1532
   pub whole : main ≡ 4 * ficlIn x + 8 * stlTotal (entriesOf x)
-
-neither : (a b : Bool) → (a || b) ≡ false → (a ≡ false) × (b ≡ false)
-neither true b e = let z : _≡_ {A = ℕ} 0 1 = cc in absurd (omega arith)
-neither false b e = (refl, e)
 
 -- no value is wider, and each is within its width
 fit : (ks vs : List ℕ) → length ks ≡ length vs → someWider ks vs ≡ false → Fit ks vs
@@ -96,9 +93,6 @@ writable x main out e =
 pub written-whole : (x : Fields) (main out : ℕ) → writingRefusalOf x main out ≡ 0 → out ≡ 6144
 written-whole x main out e = eqb-true _ _ (not-false _ (nothing x main out e .0))
 
-unequal : {a b : ℕ} → a ≡ b → not (eqb a b) ≡ false
-unequal {a} {b} e = rw (eq-eqb a b e)
-
 none-wider : (x : Fields) (main : ℕ) → Writable x main → wider x ≡ false
 unfolding wider
 none-wider x main w =
@@ -112,6 +106,6 @@ unrefused x main w =
       refl,
       (
         none-wider x main w,
-        (le-ltb _ _ (w .streams), (le-ltb _ _ (w .counted), (w .lengths, (le-ltb _ _ (w .room), (unequal (w .whole), tt))))),
+        (le-ltb _ _ (w .streams), (le-ltb _ _ (w .counted), (w .lengths, (le-ltb _ _ (w .room), (equal (w .whole), tt))))),
       ),
     )

@@ -10,17 +10,21 @@ use lib.Seq.{take-length, length-take-le}
 use Rattle.sum.specs.Sum.{sumOf}
 use Rattle.sum.proofs.Laws.{sum-lt}
 use Rattle.frame.specs.declared.Fields.{Fields}
-use Rattle.frame.specs.Words.{Fit, wordAt}
-use Rattle.frame.specs.Frame.{placeIn, statuses, statusBy, fsyncs, fsyncBy, syncWidths, errOf, fsyncOf, fcWidths, nstOf, flOf, ficlBy, streamOf, streamsTo, streamsOf, stlTotal, eohWidths, headerBytesOf, headerSumOf, mnscOf, mainStart, mainEnd, mainOf, eofWidths, mainSumOf, rfuOf, tistWidths, rfaOf, timeOf, carriedBy}
+use Rattle.octets.specs.Words.{Fit, wordAt}
+use Rattle.octets.specs.Choice.{placeIn}
+use Rattle.frame.specs.Frame.{statuses, statusBy, fsyncs, fsyncBy, syncWidths, errOf, fsyncOf, fcWidths, nstOf, flOf, ficlBy, streamOf, streamsTo, streamsOf, stlTotal, eohWidths, headerBytesOf, headerSumOf, mnscOf, mainStart, mainEnd, mainOf, eofWidths, mainSumOf, rfuOf, tistWidths, rfaOf, timeOf, carriedBy}
 use Rattle.frame.specs.Rules.{someStlAbove, refusalOf, Acceptable}
-use Rattle.frame.specs.Answers.{digit, noStream, timestampIn, fieldsOf}
-use Rattle.frame.specs.Writing.{entriesOf, ficlIn, flIn, valuesIn, timeBy, headerIn, frameIn, Clean}
-use Rattle.frame.proofs.Words.{join-lt}
+use Rattle.frame.specs.Answers.{digit, noStream, timeBy, timestampValues, timestampFor, fieldsOf}
+use Rattle.frame.specs.Writing.{entriesOf, ficlIn, flIn, valuesIn, headerIn, frameIn, Clean}
+use Rattle.octets.proofs.SplitJoin.{join-lt}
 use Rattle.frame.proofs.Accepting.{accepted}
-use Rattle.frame.proofs.Places.{level-back, fsync-back}
+use Rattle.frame.proofs.Places.{level-back, fsync-back, fsync-one, status-one}
+use Rattle.frame.proofs.Streams.{each-within}
+use Rattle.frame.proofs.Timestamps.{time-lt, time-back}
+use Rattle.sum.proofs.Bits.{digit-lt}
 use Rattle.trips.proofs.Agree.{agreed}
 use Rattle.trips.proofs.Laid.{two, two-length, halves, fit-at, laid-length, at-sync, at-fc, at-entry, at-eoh, at-eof, at-tist, header-of, main-of, padding-of, syncValues, fcValues, eohValues, eofValues, tistValues, paddingIn, header-laid, laidIn, frame-laid}
-use Rattle.trips.proofs.Words.{digit-lt, status-lt, fsync-lt, time-lt, time-back, clean-level, all-ones, FcRead, sync-read, fc-read, eoh-read, eof-read, tist-read, entry-read, entries-read}
+use Rattle.trips.proofs.Fitting.{status-lt, fsync-lt, clean-level, all-ones, FcRead, sync-read, fc-read, eoh-read, eof-read, tist-read, entry-read, entries-read}
 use Rattle.trips.proofs.Writable.{Writable}
 
 -- f, read, gives back x and m
@@ -150,13 +154,13 @@ module _ (x : Fields) (m : List ℕ) (w : Writable x (length m)) (l : length (x 
   acceptable =
       record {
         whole = whole;
-        synced = omega (arith, which, digit-lt (x .fsync1));
-        status = omega (arith, status, w .level);
+        synced = fsync-one (fsyncOf f) (omega (arith, which, digit-lt (x .fsync1)));
+        status = status-one (errOf f) (omega (arith, status, w .level));
         carrying = λ e. omega (arith, all-ones f e, fc .fct, w .counted);
         streams = omega (arith, fc .nst, w .streams);
         headed = ap sumOf header ∙ sym (eoh .1);
         counted = omega (arith, fc .fct, w .counted);
-        lengths = ap (someStlAbove 684) streams ∙ w .lengths;
+        lengths = each-within 684 f (nstOf f) (ap (someStlAbove 684) streams ∙ w .lengths);
         formula = omega (arith, fc .fl, fl-is, fc .nst, ap₂ ficlBy (fc .ficf) (fc .mid), ap stlTotal streams);
         room = omega (arith, fc .fl, w .room);
       }
@@ -179,7 +183,7 @@ module _ (x : Fields) (m : List ℕ) (w : Writable x (length m)) (l : length (x 
               mnsc = eoh .0;
               rfu = eof .1;
               rfa = tist .0;
-              timestamp = ap timestampIn (tist .1) ∙ time-back (x .timestamp) (w .time);
+              timestamp = ap timestampValues (ap timestampFor (tist .1) ∙ time-back (x .timestamp) (w .time));
             });
         streams = streams;
         main = main;

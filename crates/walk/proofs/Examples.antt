@@ -7,7 +7,7 @@ use mathlib.Core.List.{[], _∷_}
 use native.Mathlib.Omega.{arith}
 use lib.Dec.{eqb, leb}
 use borrow.Author.Tests.{leb-true, eqb-true, eqb-false, le-leb, eq-eqb, ne-eqb}
-use Rattle.frame.specs.Frame.{pick}
+use Rattle.octets.specs.Choice.{pick}
 use Rattle.walk.specs.Walk.{Judged, frame, lost, done, confirmed, live, itemAt, keeps, lookLocked, lookHunting, look, left, looksIn, looks, giving, itemsOf, items, restIn, rest, stepBy, stepIn, stepOf, calls, begin}
 use Rattle.walk.specs.Demand3.{Ends}
 use Rattle.walk.proofs.Rules.{and-left}

@@ -1,30 +1,26 @@
 -- An accepted period begins with a sync word, so a place that lacks the first two bytes of both is not accepted, and not confirmed.
 -- Assumes nothing.
-use mathlib.Core.Bool.{Bool, true, false, _||_}
+use mathlib.Core.Bool.{Bool, true, false}
 use mathlib.Core.List.{List}
-use mathlib.Core.Path.{_≡_, refl, sym, _∙_}
-use Prim.Native.Nat.{ℕ, zero, suc, _+_, _*_, _≤_, _<_}
+use mathlib.Core.Logic.{inl, inr}
+use mathlib.Core.Path.{_≡_, refl, sym, subst, _∙_}
+use Prim.Native.Nat.{ℕ, _+_, _*_, _<_}
 use native.Mathlib.Omega.{arith}
 use lib.ListN.{getD, drop}
 use lib.Seq.{getD-take, getD-drop}
-use Rattle.frame.specs.Frame.{placeIn, fsyncs, fsyncOf}
+use Rattle.frame.specs.Frame.{fsyncOf}
 use Rattle.frame.specs.Rules.{refusalOf}
 use Rattle.frame.proofs.Accepting.{acceptable}
-use Rattle.frame.proofs.Places.{at-place}
+use Rattle.frame.proofs.Places.{OneFsync}
 use Rattle.walk.specs.Walk.{confirmed}
 use Rattle.walk.specs.Records.{part, judged}
 use Rattle.walk.proofs.Steps.{confirmed-stands}
 
-pub neither : (a b : Bool) → (a || b) ≡ false → (a ≡ false) × (b ≡ false)
-neither true b e = (e, cc)
-neither false b e = (refl, e)
-
 -- the bytes a, b and c are a sync word, and r is true where a and b begin one
 module _ (a b c : ℕ) (r : Bool) (low : (a < 256) × (b < 256) × (c < 256)) (one : a ≡ 0x07 → b ≡ 0x3A → r ≡ true) (other : a ≡ 0xF8 → b ≡ 0xC5 → r ≡ true) where
-  begins : (n : ℕ) → n ≤ 1 → getD fsyncs n 0 ≡ a * 65536 + b * 256 + c → r ≡ true
-  begins zero h e = one (omega arith) (omega arith)
-  begins (suc zero) h e = other (omega arith) (omega arith)
-  begins (suc (suc n)) h e = absurd (omega arith)
+  begins : OneFsync (a * 65536 + b * 256 + c) → r ≡ true
+  begins (inl e) = one (omega arith) (omega arith)
+  begins (inr e) = other (omega arith) (omega arith)
 
 module _ (bytes : List ℕ) (p : ℕ) where
   pub byte-is : (i : ℕ) → i < 6144 → getD (part bytes p) i 0 ≡ getD bytes (p + i) 0
@@ -41,8 +37,7 @@ module _ (bytes : List ℕ) (p : ℕ) where
       pub stands-marked : refusalOf (part bytes p) ≡ 0 → r ≡ true
       stands-marked e =
           let f = part bytes p in
-          let s = acceptable f e .synced in
-          begins _ _ _ r (small (p + 1), small (p + 2), small (p + 3)) one other (placeIn fsyncs (fsyncOf f)) s (at-place fsyncs (fsyncOf f) (omega arith) ∙ fsync-is)
+          begins _ _ _ r (small (p + 1), small (p + 2), small (p + 3)) one other (subst OneFsync fsync-is (acceptable f e .synced))
 
       pub unmarked : r ≡ false → confirmed (judged 3 bytes) p ≡ false
       unmarked m = go (confirmed (judged 3 bytes) p) refl

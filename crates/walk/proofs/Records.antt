@@ -11,7 +11,7 @@ use borrow.Author.Tests.{eq-eqb, eqb-true}
 use Rattle.frame.specs.Frame.{isFsync1}
 use Rattle.frame.specs.Rules.{refusalOf, Acceptable}
 use Rattle.frame.proofs.Accepting.{accepted, acceptable}
-use Rattle.reading.specs.Steps.{headerFor}
+use Rattle.frame.specs.Answers.{headerFor}
 use Rattle.walk.specs.declared.Item.{Item}
 use Rattle.walk.specs.declared.Item.the-variants.{Frame}
 use Rattle.walk.specs.Walk.{State, Fair, Handed, frame, keeps, items, begin}

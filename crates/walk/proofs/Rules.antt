@@ -8,7 +8,7 @@ use lib.Dec.{ltb}
 use native.Mathlib.Omega.{arith}
 use borrow.Author.Tests.{leb-true, ltb-true}
 use Rattle.walk.specs.Demand3.{placeOf}
-use Rattle.frame.specs.Frame.{pick}
+use Rattle.octets.specs.Choice.{pick}
 use Rattle.walk.specs.Walk.{Judged, State, Look, frame, lost, done, fits, confirmed, live, itemAt, keeps, lookLocked, lookHunting, look, locked, hunting}
 
 pub and-left : (a b : Bool) → (a && b) ≡ true → a ≡ true

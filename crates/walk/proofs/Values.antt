@@ -8,8 +8,8 @@ use Rattle.frame.specs.declared.Answer.the-variants.{Accepted}
 use Rattle.frame.specs.Rules.{refusalOf}
 use Rattle.frame.specs.Answers.{headerValues}
 use Rattle.frame.proofs.Accepting.{acceptable}
-use Rattle.frame.proofs.Answers.{answer-fixed}
-use Rattle.reading.proofs.Answering.{header-values}
+use Rattle.frame.proofs.Fixed.{answer-fixed}
+use Rattle.frame.proofs.Headers.{header-values}
 use Rattle.walk.specs.declared.Item.{Item}
 use Rattle.walk.specs.declared.Item.the-variants.{Frame, Lost, Done}
 use Rattle.walk.specs.Walk.{frame, lost, done}

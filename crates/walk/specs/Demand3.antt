@@ -5,7 +5,7 @@ use mathlib.Core.Path.{_≡_}
 use mathlib.Core.Bool.{true, not}
 use mathlib.Core.List.{List, [], _∷_}
 use lib.Dec.{leb}
-use Rattle.frame.specs.Frame.{pick}
+use Rattle.octets.specs.Choice.{pick}
 use Rattle.walk.specs.Walk.{Judged, Handed, frame, lost, done, itemAt, keeps}
 
 -- a record that ends with n intact frames, the first of them at a, their sync words taking turns

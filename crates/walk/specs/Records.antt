@@ -9,8 +9,7 @@ use lib.ListN.{length, take, drop}
 use Rattle.frame.specs.declared.Stream.{Stream}
 use Rattle.frame.specs.Frame.{isFsync1, streamsOf}
 use Rattle.frame.specs.Rules.{refusalOf}
-use Rattle.frame.specs.Answers.{tableBy}
-use Rattle.reading.specs.Steps.{headerFor}
+use Rattle.frame.specs.Answers.{tableBy, headerFor}
 use Rattle.walk.specs.declared.Item.{Item}
 use Rattle.walk.specs.declared.Item.the-variants.{Frame, Lost, Done}
 use Rattle.walk.specs.declared.State.{State}

@@ -2,8 +2,7 @@
 -- Assumes nothing.
 use mathlib.Core.List.{List, [], _∷_}
 use Prim.Native.Nat.{ℕ, zero, suc, _+_}
-use Rattle.frame.specs.Answers.{headerValues, fieldsOf}
-use Rattle.reading.specs.Steps.{headerFor}
+use Rattle.frame.specs.Answers.{headerValues, fieldsOf, headerFor}
 use Rattle.walk.specs.declared.Item.{Item}
 use Rattle.walk.specs.declared.Item.the-variants.{Frame, Lost, Done}
 use Rattle.walk.specs.Walk.{Handed, frame, lost, done}

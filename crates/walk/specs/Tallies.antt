@@ -3,7 +3,7 @@
 use mathlib.Core.Bool.{true, false}
 use mathlib.Core.List.{List}
 use Prim.Native.Nat.{ℕ, zero, suc, _+_}
-use Rattle.frame.specs.Frame.{pick}
+use Rattle.octets.specs.Choice.{pick}
 use Rattle.walk.specs.declared.Item.{Item}
 use Rattle.walk.specs.declared.Item.the-variants.{Frame, Lost, Done}
 use Rattle.walk.specs.declared.State.{State}

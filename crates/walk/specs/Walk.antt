@@ -5,7 +5,7 @@ use mathlib.Core.Bool.{Bool, true, false, not, _&&_}
 use mathlib.Core.List.{List, [], _∷_}
 use mathlib.Core.Option.{Option, none, some}
 use lib.Dec.{leb, ltb}
-use Rattle.frame.specs.Frame.{pick}
+use Rattle.octets.specs.Choice.{pick}
 pub use Rattle.walk.specs.declared.State.{State}
 
 -- What the walk goes by. `stands`, `sync` and `number` are asked only of places whose `period` bytes exist.

@@ -6,7 +6,7 @@ use denote.Ref.{RefT, now}
 use lib.Dec.{leb}
 use lib.ListN.{length, getD}
 use Rattle.frame.specs.declared.Span.{Span}
-use Rattle.frame.specs.Frame.{pick}
+use Rattle.octets.specs.Choice.{pick}
 use Rattle.frame.specs.Answers.{PartAt}
 use Rattle.walk.specs.declared.Item.{Item}
 use Rattle.walk.specs.declared.Item.the-variants.{Frame, Lost, Done}

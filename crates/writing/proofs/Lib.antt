@@ -1,4 +1,4 @@
-pub mod Frames
+pub mod Filled
 pub mod Puts
 pub mod Refusing
-pub mod Writing
+pub mod Outcome

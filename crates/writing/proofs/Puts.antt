@@ -7,13 +7,13 @@ use native.Mathlib.Omega.{arith}
 use lib.ListN.{length, getD, take, set, replicate, length-replicate}
 use lib.Seq.{length-take-le}
 use Rattle.frame.specs.declared.Stream.{Stream}
-use Rattle.frame.specs.Words.{split, join, bytes4}
+use Rattle.octets.specs.Words.{split, join, bytes4}
 use Rattle.frame.specs.Frame.{sstcWidths}
 use Rattle.frame.specs.Answers.{noStream}
 use Rattle.frame.specs.Writing.{streamValues, streamsBytes}
 use Rattle.frame.proofs.Entries.{bytes-length, bytes-take}
-use Rattle.frame.specs.Stores.{put}
-use Rattle.frame.proofs.Stores.{put-then, put-more}
+use Rattle.octets.specs.Stores.{put}
+use Rattle.octets.proofs.Storing.{put-then, put-more}
 
 replicate-more : (k v : ℕ) → replicate k v ++ (v ∷ []) ≡ replicate (suc k) v
 replicate-more zero v = refl
@@ -34,4 +34,4 @@ streams-more l t i w h k o e =
     let a : length (take i t) ≡ i = length-take-le i t (omega arith) in
     let b = bytes-length (take i t) in
     let c : 8 + 4 * i ≡ 8 + length (streamsBytes (take i t)) = omega arith in
-    rw (bytes-take t i (omega arith), e, c) (put-then l 8 (streamsBytes (take i t)) (omega arith) (split bytes4 (join sstcWidths (streamValues (getD t i noStream)))))
+    rw (bytes-take t i (omega arith), e, c) (put-then l 8 (streamsBytes (take i t)) (split bytes4 (join sstcWidths (streamValues (getD t i noStream)))) (omega arith))

@@ -13,8 +13,8 @@ use Rattle.frame.specs.declared.Fields.{Fields}
 use Rattle.frame.specs.declared.Stream.{Stream}
 use Rattle.frame.specs.Rules.{first}
 use Rattle.frame.specs.Writing.{wider, writingRefusalOf}
-use Rattle.frame.proofs.Rules.{none-hold, first-zero, first-found}
-use Rattle.writing.specs.Steps.{headRules, bodyOf}
+use Rattle.frame.proofs.FirstRule.{none-hold, first-zero, first-found}
+use Rattle.writing.specs.WriteClauses.{headRules, bodyOf}
 
 -- beyond the table's end there is nothing to take
 pub take-least : (t : List Stream) (count : ℕ) → length t ≡ 64 → take (min count 64) t ≡ take count t

@@ -1,5 +1,5 @@
 use mathlib.Core.List.{[], _∷_}
-use Rattle.frame.proofs.Stores.{stores}
+use Rattle.octets.proofs.Storing.{stores}
 use borrow.Author.Needs.{needs}
 use Rattle.controller.proofs.put_marks.Statement.{statement}
 use Rattle.controller.proofs.put_marks.Tie as tie

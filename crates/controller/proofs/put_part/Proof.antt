@@ -1,5 +1,5 @@
 use mathlib.Core.List.{[], _∷_}
-use Rattle.frame.proofs.Stores.{stores-all}
+use Rattle.octets.proofs.Storing.{stores-all}
 use Rattle.controller.specs.Boundary.{partBytes}
 use borrow.Author.Needs.{needs}
 use Rattle.controller.proofs.put_part.Statement.{statement}

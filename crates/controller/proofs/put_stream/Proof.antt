@@ -1,7 +1,7 @@
 use native.Mathlib.Omega.{arith}
 use lib.ListN.{length-set}
 use mathlib.Core.List.{[], _∷_}
-use Rattle.frame.proofs.Stores.{stores}
+use Rattle.octets.proofs.Storing.{stores}
 use borrow.Author.Needs.{needs}
 use Rattle.controller.proofs.put_stream.Statement.{statement}
 use Rattle.controller.proofs.put_stream.Tie as tie

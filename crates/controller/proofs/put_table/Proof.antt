@@ -6,8 +6,8 @@ use native.Mathlib.Omega.{arith}
 use borrow.Author.Needs.{needs}
 use lib.ListN.{length, take}
 use lib.Seq.{take-all}
-use Rattle.frame.specs.Stores.{put}
-use Rattle.frame.proofs.Stores.{put-none}
+use Rattle.octets.specs.Stores.{put}
+use Rattle.octets.proofs.Storing.{put-none}
 use Rattle.controller.specs.Boundary.{tableBytes}
 use Rattle.controller.proofs.Tables.{table-more}
 use Rattle.controller.proofs.put_table.Statement.{statement}

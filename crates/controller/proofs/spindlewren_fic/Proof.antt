@@ -1,6 +1,6 @@
 use mathlib.Core.Path.{ap, _∙_}
 use Rattle.controller.specs.Boundary.{partBytes}
-use Rattle.controller.proofs.Answering.{wrong-length, told-refused, told-given, fic-short}
+use Rattle.controller.proofs.Telling.{wrong-length, told-refused, told-given, fic-short}
 use borrow.Author.Needs.{needs}
 use Rattle.controller.proofs.spindlewren_fic.Statement.{statement}
 use Rattle.controller.proofs.spindlewren_fic.Tie as tie

@@ -1,4 +1,4 @@
-use Rattle.controller.proofs.Answering.{wrong-length, refused, accepted, time-fits}
+use Rattle.controller.proofs.Telling.{wrong-length, refused, accepted, time-fits}
 use borrow.Author.Needs.{needs}
 use Rattle.controller.proofs.spindlewren_read.Statement.{statement}
 use Rattle.controller.proofs.spindlewren_read.Tie as tie

@@ -1,4 +1,4 @@
-use Rattle.controller.proofs.Answering.{wrong-length, told-refused, told-given, lock-wide, lock-fits, few-misses}
+use Rattle.controller.proofs.Telling.{wrong-length, told-refused, told-given, lock-wide, lock-fits, few-misses}
 use mathlib.Core.Path.{refl}
 use native.Mathlib.Omega.{arith}
 use borrow.Author.Needs.{needs}

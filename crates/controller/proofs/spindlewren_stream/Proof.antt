@@ -1,6 +1,6 @@
 use mathlib.Core.Path.{ap, _∙_}
 use Rattle.controller.specs.Boundary.{partBytes}
-use Rattle.controller.proofs.Answering.{wrong-length, told-refused, told-given, stream-short}
+use Rattle.controller.proofs.Telling.{wrong-length, told-refused, told-given, stream-short}
 use borrow.Author.Needs.{needs}
 use Rattle.controller.proofs.spindlewren_stream.Statement.{statement}
 use Rattle.controller.proofs.spindlewren_stream.Tie as tie

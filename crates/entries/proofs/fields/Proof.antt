@@ -4,13 +4,12 @@ use borrow.Author.Needs.{needs}
 use Rattle.entries.proofs.fields.Statement.{statement}
 use Rattle.entries.proofs.fields.Tie as tie
 
-cast-t26 : tie.Need-cast-t26
-cast-t26 c = omega (arith, c .shared-slice-known10 .given 4)
+cast-t28 : tie.Need-cast-t28
+cast-t28 c = omega (arith, c .shared-slice-known10 .given 4)
 
 returns : tie.Need-returns
 unfolding fieldsIn
-returns c =
-    rw (← c .before .before .before .before .before .before .before .before .before .before .before .before .four .ensures, ← c .before .before .before .before .before .before .before .before .before .before .before .timestamp .ensures, ← c .before .before .before .before .before .before .before .before .before .before .table .ensures, ← c .before .before .before .two .ensures, ← c .before .before .two2 .ensures)
+returns c = cc
 
 pub fields-spec : {M : Type 1} → statement M
 fields-spec =
@@ -18,17 +17,20 @@ fields-spec =
     (tie.spec
     (λ c. search needs)
     (λ c κs. search needs)
-    (λ c κs. search needs)
-    (λ c κs. search needs)
-    (λ c. search needs)
-    (λ c. search needs)
-    (λ c. search needs)
-    (λ c. search needs)
-    (λ c. search needs)
     (λ c. search needs)
     (λ c κs. search needs)
     (λ c κs. search needs)
     (λ c. search needs)
     (λ c. search needs)
-    cast-t26
+    (λ c. search needs)
+    (λ c. search needs)
+    (λ c. search needs)
+    (λ c. search needs)
+    (λ c κs. search needs)
+    (λ c. search needs)
+    (λ c κs. search needs)
+    (λ c. search needs)
+    (λ c. search needs)
+    (λ c. search needs)
+    cast-t28
     returns)

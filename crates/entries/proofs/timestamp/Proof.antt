@@ -1,5 +1,5 @@
-use Rattle.frame.proofs.Tests.{tests}
-use Rattle.entries.specs.Entered.{timestampBy}
+use Rattle.octets.proofs.Deciding.{tests}
+use Rattle.frame.specs.Answers.{timestampBy}
 use borrow.Author.Needs.{needs}
 use Rattle.entries.proofs.timestamp.Statement.{statement}
 use Rattle.entries.proofs.timestamp.Tie as tie

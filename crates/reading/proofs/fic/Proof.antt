@@ -1,4 +1,4 @@
-use Rattle.frame.proofs.Parts.{fic-part-inside}
+use Rattle.frame.proofs.Tiling.{fic-part-inside}
 use borrow.Author.Needs.{needs}
 use Rattle.reading.proofs.fic.Statement.{statement}
 use Rattle.reading.proofs.fic.Tie as tie

@@ -1,7 +1,7 @@
 use borrow.Author.Tests.{ne-eqb}
 use native.Mathlib.Omega.{arith}
 use borrow.Author.Needs.{needs}
-use Rattle.frame.proofs.Tests.{tests}
+use Rattle.octets.proofs.Deciding.{tests}
 use Rattle.frame.specs.Frame.{levelBy}
 use Rattle.reading.proofs.handed.Statement.{statement}
 use Rattle.reading.proofs.handed.Tie as tie

@@ -1,4 +1,4 @@
-use Rattle.reading.specs.Steps.{headerFor}
+use Rattle.frame.specs.Answers.{headerFor}
 use borrow.Author.Needs.{needs}
 use Rattle.reading.proofs.header.Statement.{statement}
 use Rattle.reading.proofs.header.Tie as tie

@@ -1,5 +1,5 @@
 use Rattle.reading.proofs.Judging.{head-judges, body-judges}
-use Rattle.frame.proofs.Tests.{tests}
+use Rattle.octets.proofs.Deciding.{tests}
 use Rattle.frame.specs.Rules.{refusalOf}
 use borrow.Author.Needs.{needs}
 use Rattle.reading.proofs.judge.Statement.{statement}

@@ -1,6 +1,6 @@
 use Rattle.reading.proofs.Answering.{judged}
 use mathlib.Core.Path.{_∙_}
-use Rattle.frame.proofs.Parts.{granted-refused, granted-given}
+use Rattle.frame.proofs.Tiling.{granted-refused, granted-given}
 use Rattle.frame.specs.Rules.{mainPart}
 use borrow.Author.Needs.{needs}
 use Rattle.reading.proofs.main_place.Statement.{statement}

@@ -1,4 +1,4 @@
-use Rattle.frame.proofs.Parts.{main-part-inside}
+use Rattle.frame.proofs.Tiling.{main-part-inside}
 use borrow.Author.Needs.{needs}
 use Rattle.reading.proofs.main_stream.Statement.{statement}
 use Rattle.reading.proofs.main_stream.Tie as tie

@@ -1,4 +1,4 @@
-use Rattle.frame.proofs.Parts.{stream-part-inside}
+use Rattle.frame.proofs.Tiling.{stream-part-inside}
 use borrow.Author.Needs.{needs}
 use Rattle.reading.proofs.stream.Statement.{statement}
 use Rattle.reading.proofs.stream.Tie as tie

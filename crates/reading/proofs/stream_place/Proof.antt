@@ -1,5 +1,5 @@
 use mathlib.Core.Path.{sym, _∙_}
-use Rattle.frame.proofs.Parts.{granted-refused, granted-given, stream-granted}
+use Rattle.frame.proofs.Tiling.{granted-refused, granted-given, stream-granted}
 use Rattle.frame.specs.Rules.{streamPart}
 use borrow.Author.Needs.{needs}
 use Rattle.reading.proofs.stream_place.Statement.{statement}

@@ -1,5 +1,5 @@
-use Rattle.frame.proofs.Tests.{tests}
-use Rattle.reading.specs.Steps.{timestampFor}
+use Rattle.octets.proofs.Deciding.{tests}
+use Rattle.frame.specs.Answers.{timestampFor}
 use borrow.Author.Needs.{needs}
 use Rattle.reading.proofs.timestamp.Statement.{statement}
 use Rattle.reading.proofs.timestamp.Tie as tie

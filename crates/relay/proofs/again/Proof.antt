@@ -1,4 +1,4 @@
-use Rattle.relay.proofs.Relaying.{main-for, relays}
+use Rattle.relay.proofs.Hop.{main-for, relays}
 use native.Mathlib.Omega.{arith}
 use borrow.Author.Needs.{needs}
 use Rattle.relay.proofs.again.Statement.{statement}

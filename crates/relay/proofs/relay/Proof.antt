@@ -1,5 +1,5 @@
 use Rattle.reading.proofs.Answered.{got-number, got-refused, got-nonzero}
-use Rattle.relay.proofs.Relaying.{got-fields, relay-refused}
+use Rattle.relay.proofs.Hop.{got-fields, relay-refused}
 use mathlib.Core.Path.{_∙_}
 use borrow.Author.Needs.{needs}
 use Rattle.relay.proofs.relay.Statement.{statement}

@@ -6,7 +6,7 @@ use native.Mathlib.Nat.{le-antisymm}
 use borrow.Author.Needs.{needs}
 use Rattle.walk.specs.Records.{Onward}
 use Rattle.walk.proofs.Steps.{stays, further, passes}
-use Rattle.walk.proofs.Marks.{neither}
+use Rattle.octets.proofs.Deciding.{neither}
 use Rattle.walk.proofs.marked.Statement.{statement}
 use Rattle.walk.proofs.marked.Tie as tie
 

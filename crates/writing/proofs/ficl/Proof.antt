@@ -1,6 +1,6 @@
 use Rattle.frame.specs.Frame.{ficlBy}
 use borrow.Author.Needs.{needs}
-use Rattle.frame.proofs.Tests.{tests}
+use Rattle.octets.proofs.Deciding.{tests}
 use Rattle.writing.proofs.ficl.Statement.{statement}
 use Rattle.writing.proofs.ficl.Tie as tie
 

@@ -1,4 +1,4 @@
-use Rattle.writing.proofs.Frames.{fits, frame-puts}
+use Rattle.writing.proofs.Filled.{fits, frame-puts}
 use native.Mathlib.Omega.{arith}
 use borrow.Author.Needs.{needs}
 use Rattle.writing.proofs.fill.Statement.{statement}

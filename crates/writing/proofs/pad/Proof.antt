@@ -3,8 +3,8 @@ use Prim.Native.Nat.{ℕ, _≤_, _-_}
 use native.Mathlib.Omega.{arith}
 use borrow.Author.Needs.{needs}
 use lib.ListN.{length, replicate, length-set}
-use Rattle.frame.specs.Stores.{put}
-use Rattle.frame.proofs.Stores.{put-none}
+use Rattle.octets.specs.Stores.{put}
+use Rattle.octets.proofs.Storing.{put-none}
 use Rattle.writing.proofs.Puts.{pad-more}
 use Rattle.writing.proofs.pad.Statement.{statement}
 use Rattle.writing.proofs.pad.Tie as tie

@@ -1,4 +1,4 @@
-use Rattle.writing.proofs.Frames.{end-puts}
+use Rattle.writing.proofs.Filled.{end-puts}
 use borrow.Author.Needs.{needs}
 use Rattle.writing.proofs.put_end.Statement.{statement}
 use Rattle.writing.proofs.put_end.Tie as tie

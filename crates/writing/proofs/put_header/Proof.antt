@@ -1,4 +1,4 @@
-use Rattle.writing.proofs.Frames.{header-puts, header-length}
+use Rattle.writing.proofs.Filled.{header-puts, header-length}
 use borrow.Author.Needs.{needs}
 use Rattle.writing.proofs.put_header.Statement.{statement}
 use Rattle.writing.proofs.put_header.Tie as tie

@@ -4,8 +4,8 @@ use native.Mathlib.Omega.{arith}
 use borrow.Author.Needs.{needs}
 use lib.ListN.{length, take, length-set}
 use lib.Seq.{take-all}
-use Rattle.frame.specs.Stores.{put}
-use Rattle.frame.proofs.Stores.{put-none, copy-more}
+use Rattle.octets.specs.Stores.{put}
+use Rattle.octets.proofs.Storing.{put-none, copy-more}
 use Rattle.writing.proofs.put_main.Statement.{statement}
 use Rattle.writing.proofs.put_main.Tie as tie
 

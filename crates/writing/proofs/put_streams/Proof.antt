@@ -4,9 +4,9 @@ use native.Mathlib.Nat.{le-antisymm}
 use native.Mathlib.Omega.{arith}
 use borrow.Author.Needs.{needs}
 use lib.ListN.{length, take}
-use Rattle.frame.specs.Stores.{put}
+use Rattle.octets.specs.Stores.{put}
 use Rattle.frame.specs.Writing.{streamsBytes}
-use Rattle.frame.proofs.Stores.{put-none}
+use Rattle.octets.proofs.Storing.{put-none}
 use Rattle.writing.proofs.Puts.{streams-more}
 use Rattle.writing.proofs.put_streams.Statement.{statement}
 use Rattle.writing.proofs.put_streams.Tie as tie

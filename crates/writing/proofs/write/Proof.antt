@@ -1,4 +1,4 @@
-use Rattle.writing.proofs.Writing.{ready, write-refused, write-done}
+use Rattle.writing.proofs.Outcome.{ready, write-refused, write-done}
 use borrow.Author.Needs.{needs}
 use Rattle.writing.proofs.write.Statement.{statement}
 use Rattle.writing.proofs.write.Tie as tie

@@ -12,33 +12,21 @@ use Rattle.frame.specs.declared.Answer.the-variants.{Accepted, Refused}
 use Rattle.frame.specs.declared.Header.{Header}
 use Rattle.frame.specs.declared.Reading.{Reading}
 use Rattle.frame.specs.declared.Timestamp.the-variants.{Absent, Time}
-use Rattle.frame.specs.Words.{wordAt}
-use Rattle.frame.specs.Frame.{pick, flOf, tistWidths, timeOf}
+use Rattle.octets.specs.Words.{wordAt}
+use Rattle.octets.specs.Choice.{pick}
+use Rattle.frame.specs.Frame.{flOf, tistWidths, timeOf}
 use Rattle.frame.specs.Rules.{refusalOf, streamRefusalOf, ficPart, streamPart}
-use Rattle.frame.specs.Answers.{headerValues, fieldsOf, Reads}
-use Rattle.frame.specs.Writing.{timeBy}
+use Rattle.frame.specs.Answers.{headerValues, fieldsOf, Reads, timestampFor, headerFor, timeBy}
 use Rattle.frame.proofs.Accepting.{acceptable}
-use Rattle.frame.proofs.Parts.{fic-part-inside, stream-part-inside, stream-granted}
-use Rattle.frame.proofs.Words.{split-fit}
-use Rattle.reading.specs.Steps.{timestampFor, headerFor}
+use Rattle.frame.proofs.Tiling.{fic-part-inside, stream-part-inside, stream-granted}
+use Rattle.octets.proofs.SplitJoin.{split-fit}
 use Rattle.reading.proofs.Answered.{got-number, got-header, got-table, got-refused, got-nonzero}
-use Rattle.reading.proofs.Answering.{header-values}
+use Rattle.frame.proofs.Headers.{header-values, time-of-lt}
+use Rattle.frame.proofs.Timestamps.{time-kept}
 use Rattle.controller.specs.Boundary.{encode, headCounts, tableBytes, answerOf, stateRefusalOf, lentRefusal, Told}
 use Rattle.walk.specs.declared.State.{State}
 use Rattle.walk.specs.Records.{judged, stepShown, stepAt}
 use Rattle.walk.proofs.Misses.{misses-within}
-
-split-lt : (f : List ℕ) → timeOf f < 16777216
-unfolding timeOf
-split-lt f = split-fit tistWidths (wordAt f (4 + (flOf f + 2) * 4)) .1 .0
-
-fits : (n : ℕ) → n < 16777216 → timeBy (timestampFor n) < 16777216
-unfolding timestampFor
-fits n h = go (eqb n 0xFFFFFF) refl
-  where
-    go : (b : Bool) → eqb n 0xFFFFFF ≡ b → timeBy (pick b Absent (Time n)) < 16777216
-    go true e = lit< tt
-    go false e = h
 
 -- ---- the three outcomes of an export with n answer bytes
 module _ (n refusal : ℕ) (bytes before : List ℕ) where
@@ -75,7 +63,7 @@ module _ (f before : List ℕ) (whole : length before ≡ 402) (r : Reading) (re
   unfolding headerFor
   time-fits h e =
       subst (λ (k : Header). timeBy (k .timestamp) < 16777216) (sym (got-header f r reads h e))
-      (fits (timeOf f) (split-lt f))
+      (rw (time-kept (timeOf f)) (time-of-lt f))
 
 -- ---- parts: given, they lie within the frame
 pub fic-short : (f : List ℕ) (n : ℕ) → n ≡ refusalOf f → n ≡ 0 → ficPart f .start + ficPart f .len ≤ 6144

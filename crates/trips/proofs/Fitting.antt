@@ -1,31 +1,25 @@
 -- From a frame's words to its fields: a word put together from values is read as those values.
 -- Assumes nothing.
-use mathlib.Core.Bool.{Bool, true, false}
 use mathlib.Core.List.{List, [], _∷_}
 use mathlib.Core.Path.{_≡_, refl, sym, ap, _∙_}
 use Prim.Native.Nat.{ℕ, zero, suc, _+_, _*_, _^_, _<_, _≤_}
 use native.Mathlib.Nat.{le-of-lt}
 use native.Mathlib.Omega.{arith}
-use lib.Dec.{eqb, lit<}
+use lib.Dec.{lit<}
 use lib.ListN.{length, getD, take}
 use lib.Seq.{take-suc}
-use borrow.Author.Tests.{eq-eqb, ne-eqb, leb-false}
+use borrow.Author.Tests.{eq-eqb}
 use Rattle.sum.specs.Sum.{sumOf}
 use Rattle.frame.specs.declared.Stream.{Stream}
-use Rattle.frame.specs.declared.Timestamp.{Timestamp}
-use Rattle.frame.specs.declared.Timestamp.the-variants.{Absent, Time}
-use Rattle.frame.specs.Words.{split, join, Fit, wordAt}
-use Rattle.frame.specs.Frame.{pick, syncWidths, errOf, fsyncOf, statusBy, fsyncBy, fcWidths, fcOf, fctOf, ficfOf, nstOf, fpOf, midOf, flOf, sstcWidths, sstcOf, streamOf, streamsTo, eohWidths, eohOf, mnscOf, headerSumOf, eofWidths, eofOf, mainSumOf, rfuOf, tistWidths, tistOf, rfaOf, timeOf, placeIn, statuses, mainOf, levelBy, levelOf}
-use Rattle.frame.specs.Answers.{digit, timestampIn, timestampValues, noStream}
-use Rattle.frame.specs.Writing.{timeWider, timeBy, streamValues, Clean}
-use Rattle.frame.proofs.Words.{split-fit, split-join}
+use Rattle.octets.specs.Words.{split, join, Fit, wordAt}
+use Rattle.octets.specs.Choice.{placeIn}
+use Rattle.frame.specs.Frame.{syncWidths, errOf, fsyncOf, statusBy, fsyncBy, fcWidths, fcOf, fctOf, ficfOf, nstOf, fpOf, midOf, flOf, sstcWidths, sstcOf, streamOf, streamsTo, eohWidths, eohOf, mnscOf, headerSumOf, eofWidths, eofOf, mainSumOf, rfuOf, tistWidths, tistOf, rfaOf, timeOf, statuses, mainOf, levelBy, levelOf}
+use Rattle.frame.specs.Answers.{digit, noStream}
+use Rattle.frame.specs.Writing.{streamValues, Clean}
+use Rattle.octets.proofs.SplitJoin.{split-fit, split-join}
 use Rattle.trips.proofs.Writable.{plainWidths}
 
 -- ---- bounds
-pub digit-lt : (b : Bool) → digit b < 2
-digit-lt true = lit< tt
-digit-lt false = lit< tt
-
 pub status-lt : (level : ℕ) → statusBy level < 2 ^ 8
 status-lt zero = lit< tt
 status-lt (suc zero) = lit< tt
@@ -38,36 +32,10 @@ fsync-lt zero = lit< tt
 fsync-lt (suc zero) = lit< tt
 fsync-lt (suc (suc which)) = lit< tt
 
-pub time-lt : (t : Timestamp) → timeWider t ≡ false → timeBy t < 2 ^ 24
-time-lt Absent h = lit< tt
-time-lt (Time n) h = omega (arith, leb-false 0xFFFFFF n h)
-
--- ---- the timestamp and back
-pub time-back : (t : Timestamp) → timeWider t ≡ false → timestampIn (timeBy t) ≡ timestampValues t
-unfolding timestampIn
-time-back Absent h = refl
-time-back (Time n) h = rw (ne-eqb n 0xFFFFFF (omega (arith, leb-false 0xFFFFFF n h)))
-
 -- a clean frame's level is the one read
 pub clean-level : (f : List ℕ) → Clean f → levelOf f ≡ placeIn statuses (errOf f)
 unfolding levelOf levelBy
 clean-level f k = rw (eq-eqb (sumOf (mainOf f)) (mainSumOf f) (k .sum))
-
--- a time's number is the one carried
-number-in : (n : ℕ) → getD (timestampIn n) 1 0 ≡ n
-unfolding timestampIn
-number-in n = go (eqb n 0xFFFFFF)
-  where
-    go : (b : Bool) → getD (pick b (0 ∷ n ∷ []) (1 ∷ n ∷ [])) 1 0 ≡ n
-    go true = refl
-    go false = refl
-
-number-of : (t : Timestamp) → getD (timestampValues t) 1 0 ≡ timeBy t
-number-of Absent = refl
-number-of (Time n) = refl
-
-pub time-carried : (n : ℕ) (t : Timestamp) → timestampIn n ≡ timestampValues t → n ≡ timeBy t
-time-carried n t e = sym (number-in n) ∙ ap (λ (l : List ℕ). getD l 1 0) e ∙ number-of t
 
 -- ---- the fields of each word
 -- FC of ones only has an FCT that no frame may have

@@ -7,7 +7,7 @@ use native.Mathlib.Nat.{mod-one, mod-lt, mod-eq-of-lt, mul-assoc, suc-mul, mul-l
 use native.Mathlib.Omega.{arith}
 use lib.Dec.{lit<}
 use lib.Pow.{pow-pos, pow-add, high, mod-pow-add}
-use Rattle.frame.specs.Words.{total, split, join, Fit}
+use Rattle.octets.specs.Words.{total, split, join, Fit}
 
 -- put together, the fields of a word are its lower bits, as many as the widths come to
 join-low : (ks : List ℕ) (w : ℕ) → join ks (split ks w) ≡ w % 2 ^ total ks

@@ -7,7 +7,7 @@ use mathlib.Core.Path.{_≡_, refl, ap}
 use Prim.Native.Nat.{ℕ}
 use native.Mathlib.Omega.{arith}
 use lib.Dec.{T, ltb, ltb→lt}
-use Rattle.frame.specs.Frame.{pick}
+use Rattle.octets.specs.Choice.{pick}
 use Rattle.frame.specs.Rules.{Rule, _when_, first}
 
 -- no rule holds

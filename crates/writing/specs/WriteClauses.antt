@@ -1,4 +1,4 @@
--- What the steps of writing say to each other.
+-- Nothing in this file need be believed: clauses between private functions. The rules in two parts.
 -- Assumes nothing.
 use mathlib.Core.Bool.{Bool, not}
 use mathlib.Core.List.{List, [], _∷_}

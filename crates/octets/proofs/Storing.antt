@@ -6,57 +6,67 @@ use Prim.Native.Nat.{ℕ, _+_, _/_, _%_, _≤_, _<_}
 use native.Mathlib.Nat.{zero-add, add-assoc}
 use native.Mathlib.Numerals.{add-one}
 use native.Mathlib.Omega.{arith}
+use borrow.Author.Tests.{le-leb, lt-leb}
 use lib.ListN.{length, getD, take, drop, set, length-set, length-append, length-drop}
 use lib.Seq.{length-take-le, take-at, drop-at, drop-drop, drop-length, take-suc, sets-eq}
-use Rattle.frame.specs.Stores.{put}
+use Rattle.octets.specs.Stores.{put}
 
 module _ (l : List ℕ) (at : ℕ) (us : List ℕ) (h : at + length us ≤ length l) where
+  -- where there is room
+  pub put-room : put l at us ≡ take at l ++ us ++ drop (at + length us) l
+  unfolding put
+  put-room = rw (le-leb (at + length us) (length l) h)
+
   front : length (take at l ++ us) ≡ at + length us
   front = rw (length-append, length-take-le at l (omega arith))
 
   pub put-length : length (put l at us) ≡ length l
-  unfolding put
-  put-length = rw (length-append (take at l ++ us) (drop (at + length us) l), front, length-drop) (omega arith)
+  put-length = rw (put-room, length-append (take at l ++ us) (drop (at + length us) l), front, length-drop) (omega arith)
 
   taken : take (at + length us) (put l at us) ≡ take at l ++ us
-  unfolding put
-  taken = take-at (take at l ++ us) (drop (at + length us) l) (at + length us) front
+  taken = rw put-room (take-at (take at l ++ us) (drop (at + length us) l) (at + length us) front)
 
   dropped : drop (at + length us) (put l at us) ≡ drop (at + length us) l
-  unfolding put
-  dropped = drop-at (take at l ++ us) (drop (at + length us) l) (at + length us) front
+  dropped = rw put-room (drop-at (take at l ++ us) (drop (at + length us) l) (at + length us) front)
 
-  pub put-then : (vs : List ℕ) → put (put l at us) (at + length us) vs ≡ put l at (us ++ vs)
-  unfolding put
-  put-then vs =
-      ap₂ (λ (a b : List ℕ). a ++ b)
-      (ap (λ (r : List ℕ). r ++ vs) taken ∙ append-assoc (take at l) us vs)
+module _ (l : List ℕ) (at : ℕ) (us vs : List ℕ) (h : at + length us + length vs ≤ length l) where
+  pub put-then : put (put l at us) (at + length us) vs ≡ put l at (us ++ vs)
+  put-then =
+      let first : at + length us ≤ length l = omega arith in
+      let both : at + length (us ++ vs) ≤ length l = simp length-append (omega arith) in
+      let whole = put-length l at us first in
+      put-room (put l at us) (at + length us) vs (omega arith)
+      ∙ ap₂ (λ (a b : List ℕ). a ++ b)
+      (ap (λ (r : List ℕ). r ++ vs) (taken l at us first) ∙ append-assoc (take at l) us vs)
       (sym (drop-drop (length vs) (at + length us) (put l at us))
-      ∙ ap (drop (length vs)) dropped
+      ∙ ap (drop (length vs)) (dropped l at us first)
       ∙ drop-drop (length vs) (at + length us) l
       ∙ ap (λ (k : ℕ). drop k l) (add-assoc at (length us) (length vs) ∙ ap (λ (k : ℕ). at + k) (sym (length-append us vs))))
+      ∙ sym (put-room l at (us ++ vs) both)
 
 -- two puts, the second where the first ended
-pub put-chain : (l a b : List ℕ) (at n : ℕ) (us vs : List ℕ) → a ≡ put l at us → b ≡ put a n vs → n ≡ at + length us → at + length us ≤ length l → b ≡ put l at (us ++ vs)
-put-chain l a b at n us vs p q e h = q ∙ rw (p, e) (put-then l at us h vs)
+pub put-chain : (l a b : List ℕ) (at n : ℕ) (us vs : List ℕ) → a ≡ put l at us → b ≡ put a n vs → n ≡ at + length us → at + length us + length vs ≤ length l → b ≡ put l at (us ++ vs)
+put-chain l a b at n us vs p q e h = q ∙ rw (p, e) (put-then l at us vs h)
 
 -- a store puts one element
 pub set-put : (l : List ℕ) (at v : ℕ) → at < length l → set l at v ≡ put l at (v ∷ [])
-unfolding put
-set-put l at v h = sets-eq (v ∷ []) l at (omega arith)
+set-put l at v h = sets-eq (v ∷ []) l at (omega arith) ∙ sym (put-room l at (v ∷ []) (omega arith))
 
 pub put-none : (l : List ℕ) (at : ℕ) → at ≤ length l → l ≡ put l at []
-unfolding put
-put-none l at h = sets-eq [] l at (omega arith)
+put-none l at h = sets-eq [] l at (omega arith) ∙ sym (put-room l at [] (omega arith))
 
 -- put over all of it, nothing is left of what stood there
 pub put-all : (l vs : List ℕ) → length vs ≡ length l → put l 0 vs ≡ vs
+put-all l vs e = put-room l 0 vs (omega arith) ∙ rw (zero-add (length vs), e, drop-length l) (append-nil vs)
+
+-- where there is no room, nothing is stored
+pub put-short : (l : List ℕ) (at : ℕ) (vs : List ℕ) → length l < at + length vs → l ≡ put l at vs
 unfolding put
-put-all l vs e = rw (zero-add (length vs), e, drop-length l) (append-nil vs)
+put-short l at vs h = rw (lt-leb (at + length vs) (length l) h)
 
 -- one element, then others behind it
 set-then : (l : List ℕ) (n v : ℕ) (vs : List ℕ) → n + 1 + length vs ≤ length l → put (set l n v) (n + 1) vs ≡ put l n (v ∷ vs)
-set-then l n v vs h = rw (set-put l n v (omega arith)) (put-then l n (v ∷ []) (omega arith) vs)
+set-then l n v vs h = rw (set-put l n v (omega arith)) (put-then l n (v ∷ []) vs (omega arith))
 
 -- stores at k, k + 1 and so on from `at` on, as code makes them
 abbrev pub storing : List ℕ → ℕ → ℕ → List ℕ → List ℕ
@@ -89,7 +99,7 @@ low-byte n = omega arith
 pub put-more : (l : List ℕ) (at : ℕ) (us : List ℕ) (v : ℕ) → at + length us < length l → set (put l at us) (at + length us) v ≡ put l at (us ++ (v ∷ []))
 put-more l at us v h =
     let e = put-length l at us (omega arith) in
-    set-put (put l at us) (at + length us) v (omega arith) ∙ put-then l at us (omega arith) (v ∷ [])
+    set-put (put l at us) (at + length us) v (omega arith) ∙ put-then l at us (v ∷ []) (omega arith)
 
 pub copy-more : (l : List ℕ) (at : ℕ) (m : List ℕ) (i : ℕ) → at + length m ≤ length l → i < length m → set (put l at (take i m)) (at + i) (getD m i 0) ≡ put l at (take (i + 1) m)
 copy-more l at m i h k =

@@ -17,15 +17,14 @@ use Rattle.frame.specs.declared.Span.{Span}
 use Rattle.frame.specs.declared.Stream.{Stream}
 use Rattle.frame.specs.Frame.{nstOf, midOf, flOf, ficfOf, ficlBy, ficlOf, stlTotal, flBy, streamsOf, mainSpan, mainOf}
 use Rattle.frame.specs.Rules.{_when_, first, rulesOf, refusalOf, Acceptable, mainPart}
-use Rattle.frame.specs.Answers.{digit, timestampValues, noStream, fieldsOf, tableBy, Reads, PartAt}
+use Rattle.frame.specs.Answers.{digit, timestampValues, noStream, fieldsOf, tableBy, Reads, PartAt, headerFor}
 use Rattle.frame.specs.Writing.{entriesOf, flIn, valuesIn, writingRefusalOf, frameIn, writtenOf, Writes, Bytes, Clean}
 use Rattle.frame.proofs.Accepting.{acceptable, nothing}
-use Rattle.frame.proofs.Parts.{granted-given}
-use Rattle.frame.proofs.Rules.{first-zero, first-found}
+use Rattle.frame.proofs.Tiling.{granted-given}
+use Rattle.frame.proofs.FirstRule.{first-zero, first-found}
 use Rattle.frame.proofs.Streams.{streams-length}
-use Rattle.reading.specs.Steps.{headerFor}
 use Rattle.reading.proofs.Answered.{got-header, got-table}
-use Rattle.reading.proofs.Answering.{header-values, digit-of, ficf-lt}
+use Rattle.frame.proofs.Headers.{header-values, digit-of, ficf-lt}
 use Rattle.trips.proofs.OneFrame.{one-frame}
 use Rattle.trips.proofs.ReadWritable.{read-unrefused}
 use Rattle.relay.specs.Relaying.{fieldsWith, fieldsFor, relayRefusalOf, Relays}

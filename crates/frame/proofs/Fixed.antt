@@ -9,21 +9,14 @@ use Rattle.frame.specs.declared.Answer.{Answer}
 use Rattle.frame.specs.declared.Answer.the-variants.{Accepted, Refused}
 use Rattle.frame.specs.declared.Header.{Header}
 use Rattle.frame.specs.declared.Reading.{Reading}
-use Rattle.frame.specs.declared.Timestamp.{Timestamp}
-use Rattle.frame.specs.declared.Timestamp.the-variants.{Absent, Time}
-use Rattle.frame.specs.Answers.{timestampValues, digit, headerValues, numberOf, valuesOf, Reads}
+use Rattle.frame.proofs.Timestamps.{timestamp-fixed}
+use Rattle.frame.specs.Answers.{digit, headerValues, numberOf, valuesOf, Reads}
 
 digit-fixed : (a b : Bool) → digit a ≡ digit b → a ≡ b
 digit-fixed true true e = refl
 digit-fixed true false e = absurd (omega arith)
 digit-fixed false true e = absurd (omega arith)
 digit-fixed false false e = refl
-
-timestamp-fixed : (s t : Timestamp) → timestampValues s ≡ timestampValues t → s ≡ t
-timestamp-fixed Absent Absent e = refl
-timestamp-fixed Absent (Time n) e = let z : _≡_ {A = ℕ} 0 1 = cc in absurd (omega arith)
-timestamp-fixed (Time m) Absent e = let z : _≡_ {A = ℕ} 0 1 = cc in absurd (omega arith)
-timestamp-fixed (Time m) (Time n) e = cc
 
 header-fixed : (h k : Header) → headerValues h ≡ headerValues k → h ≡ k
 header-fixed h k e =

@@ -1,4 +1,4 @@
--- What the steps of reading say to each other: the rules in two parts, the header as a value.
+-- Nothing in this file need be believed: clauses between private functions. The rules in two parts.
 -- Assumes nothing.
 use mathlib.Core.Bool.{Bool, not}
 use mathlib.Core.List.{List, [], _∷_}
@@ -7,11 +7,9 @@ use Prim.Native.Nat.{ℕ, _≤_, _<_}
 use lib.Dec.{eqb, ltb}
 use lib.ListN.{length}
 use Rattle.sum.specs.Sum.{sumOf}
-use Rattle.frame.specs.declared.Header.{Header}
-use Rattle.frame.specs.declared.Timestamp.{Timestamp}
-use Rattle.frame.specs.declared.Timestamp.the-variants.{Absent, Time}
-use Rattle.frame.specs.Words.{wordAt}
-use Rattle.frame.specs.Frame.{pick, placeIn, statuses, errOf, fsyncs, fsyncOf, fctOf, ficfOf, nstOf, fpOf, midOf, flOf, ficlOf, streamsOf, stlTotal, flBy, headerBytesOf, headerSumOf, mnscOf, rfuOf, rfaOf, timeOf, levelOf}
+use Rattle.octets.specs.Words.{wordAt}
+use Rattle.octets.specs.Choice.{placeIn}
+use Rattle.frame.specs.Frame.{statuses, errOf, fsyncs, fsyncOf, fctOf, nstOf, flOf, ficlOf, streamsOf, stlTotal, flBy, headerBytesOf, headerSumOf}
 use Rattle.frame.specs.Rules.{Rule, _when_, someStlAbove, Acceptable}
 
 abbrev pub headRules : ℕ → ℕ → ℕ → ℕ → List Rule
@@ -39,26 +37,6 @@ bodyRulesOf f =
 pub record Counted (f : List ℕ) (n : ℕ) : Type 0 where
   pub whole : length f ≡ 6144
   pub few : n ≤ 127
-
-unfoldable pub timestampFor : ℕ → Timestamp
-timestampFor n = pick (eqb n 0xFFFFFF) Absent (Time n)
-
-unfoldable pub headerFor : List ℕ → Header
-headerFor f =
-    record {
-      level = levelOf f;
-      fsync1 = eqb (placeIn fsyncs (fsyncOf f)) 1;
-      fct = fctOf f;
-      ficf = eqb (ficfOf f) 1;
-      nst = nstOf f;
-      fp = fpOf f;
-      mid = midOf f;
-      fl = flOf f;
-      mnsc = mnscOf f;
-      rfu = rfuOf f;
-      rfa = rfaOf f;
-      timestamp = timestampFor (timeOf f);
-    }
 
 -- an acceptable frame that has stream i
 pub record Has (f : List ℕ) (i : ℕ) : Type 0 where

@@ -8,7 +8,7 @@ use lib.ListN.{length}
 use Rattle.frame.specs.declared.Fields.{Fields}
 use Rattle.frame.specs.Writing.{writingRefusalOf, frameIn, writtenOf, Writes}
 use Rattle.trips.proofs.Writable.{writable, written-whole}
-use Rattle.writing.specs.Steps.{Ready}
+use Rattle.writing.specs.WriteClauses.{Ready}
 
 pub ready : (x : Fields) (m o n : ℕ) → n ≡ writingRefusalOf x m o → n ≡ 0 → Ready x m o
 ready x m o n e z =

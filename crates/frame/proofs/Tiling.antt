@@ -14,7 +14,8 @@ use lib.Seq.{take-add, drop-drop}
 use denote.Ref.{RefT, now}
 use borrow.Author.Tests.{eq-eqb, ne-eqb, eqb-true, eqb-false}
 use Rattle.frame.specs.declared.Span.{Span}
-use Rattle.frame.specs.Frame.{pick, nstOf, flOf, streamOf, streamsTo, stlTotal, mainStart, mainEnd, mainSpan, ficSpan, streamSpan, spansTo, Tile, cuts, mainOf, carriedBy, between}
+use Rattle.octets.specs.Choice.{pick}
+use Rattle.frame.specs.Frame.{nstOf, flOf, streamOf, streamsTo, stlTotal, mainStart, mainEnd, mainSpan, ficSpan, streamSpan, spansTo, Tile, cuts, mainOf, carriedBy, between}
 use Rattle.frame.specs.Rules.{refusalOf, Acceptable, streamRefusalOf, granted, mainPart, ficPart, streamPart}
 use Rattle.frame.specs.Answers.{PartAt}
 use Rattle.frame.proofs.Accepting.{acceptable, request-refused, request-granted}

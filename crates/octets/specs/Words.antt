@@ -26,13 +26,23 @@ Fit [] (v ∷ vs) = ⊥
 Fit (k ∷ ks) [] = ⊥
 Fit (k ∷ ks) (v ∷ vs) = (v < 2 ^ k) × Fit ks vs
 
--- two bytes, and a word's four
+-- two bytes, a word's four, and eight
 abbrev pub bytes2 : List ℕ
 bytes2 = 8 ∷ 8 ∷ []
 
 abbrev pub bytes4 : List ℕ
 bytes4 = 8 ∷ 8 ∷ 8 ∷ 8 ∷ []
 
--- the word that begins at byte p
+abbrev pub bytes8 : List ℕ
+bytes8 = 8 ∷ 8 ∷ 8 ∷ 8 ∷ 8 ∷ 8 ∷ 8 ∷ 8 ∷ []
+
+-- the number in the two bytes from p on, the word that begins at byte p, and the number in the eight bytes from p on
+abbrev pub twoAt : List ℕ → ℕ → ℕ
+twoAt f p = join bytes2 (getD f p 0 ∷ getD f (p + 1) 0 ∷ [])
+
 abbrev pub wordAt : List ℕ → ℕ → ℕ
 wordAt f p = join bytes4 (getD f p 0 ∷ getD f (p + 1) 0 ∷ getD f (p + 2) 0 ∷ getD f (p + 3) 0 ∷ [])
+
+abbrev pub eightAt : List ℕ → ℕ → ℕ
+eightAt f p =
+    join bytes8 (getD f p 0 ∷ getD f (p + 1) 0 ∷ getD f (p + 2) 0 ∷ getD f (p + 3) 0 ∷ getD f (p + 4) 0 ∷ getD f (p + 5) 0 ∷ getD f (p + 6) 0 ∷ getD f (p + 7) 0 ∷ [])

@@ -8,14 +8,14 @@ use lib.ListN.{length, drop, replicate, length-append, length-replicate}
 use lib.Seq.{length-take-le, take-at, drop-at}
 use Rattle.sum.specs.Sum.{sumOf}
 use Rattle.frame.specs.declared.Fields.{Fields}
-use Rattle.frame.specs.Words.{split, join, bytes2, bytes4}
+use Rattle.octets.specs.Words.{split, join, bytes2, bytes4}
 use Rattle.frame.specs.Frame.{between, syncWidths, statusBy, fsyncBy, fcWidths, tistWidths, carriedBy}
-use Rattle.frame.specs.Answers.{digit}
-use Rattle.frame.specs.Writing.{entriesOf, flIn, streamsBytes, timeBy, syncIn, headerIn, endIn, frameIn}
+use Rattle.frame.specs.Answers.{digit, timeBy}
+use Rattle.frame.specs.Writing.{entriesOf, flIn, streamsBytes, syncIn, headerIn, endIn, frameIn}
 use Rattle.frame.proofs.Entries.{bytes-length}
-use Rattle.frame.specs.Stores.{put}
-use Rattle.writing.specs.Steps.{Ready}
-use Rattle.frame.proofs.Stores.{put-chain, put-length, put-all}
+use Rattle.octets.specs.Stores.{put}
+use Rattle.writing.specs.WriteClauses.{Ready}
+use Rattle.octets.proofs.Storing.{put-chain, put-length, put-room, put-all}
 
 -- a word put is the word that it equals
 word-put : (l b : List ℕ) (at v w : ℕ) → b ≡ put l at (split bytes4 v) → v ≡ w → b ≡ put l at (split bytes4 w)
@@ -53,12 +53,11 @@ pub fits : (x : Fields) (m o : ℕ) → Ready x m o → 10 + 4 * x .count + 2 + 
 fits x m o y = omega (arith, carried x m o y, y .room, y .out)
 
 -- what was put last is what stands there: both sums are taken over the output
-part-put : (l S H : List ℕ) → between (put l 0 (S ++ H)) (length S) (length S + length H) ≡ H
-unfolding put
-part-put l S H =
+part-put : (l S H : List ℕ) → length (S ++ H) ≤ length l → between (put l 0 (S ++ H)) (length S) (length S + length H) ≡ H
+part-put l S H h =
     let rest = drop (0 + length (S ++ H)) l in
     let z : length S + length H - length S ≡ length H = omega arith in
-    rw (append-assoc S H rest, drop-at S (H ++ rest) (length S) refl, z) (take-at H rest (length H) refl)
+    rw (put-room l 0 (S ++ H) (omega arith), append-assoc S H rest, drop-at S (H ++ rest) (length S) refl, z) (take-at H rest (length H) refl)
 
 module _ (x : Fields) (l : List ℕ) where
   -- the main stream's sum, Rfu, Rfa and timestamp
@@ -94,7 +93,7 @@ module _ (x : Fields) (l : List ℕ) (room : length l ≡ 6144) where
       let p2 = put-chain l a b 0 4 S F p1 (word-put a b 4 w _ pb ew) refl (omega arith) in
       let p3 = put-chain l b d 0 8 (S ++ F) B p2 pd refl (omega arith) in
       let q : 8 + 4 * x .count ≡ 0 + length ((S ++ F) ++ B) = simp length-append (omega arith) in
-      let r : 0 + length ((S ++ F) ++ B) ≤ length l = simp length-append (omega arith) in
+      let r : 0 + length ((S ++ F) ++ B) + length (split bytes2 (x .mnsc)) ≤ length l = simp length-append (omega arith) in
       let p4 = put-chain l d e 0 (8 + 4 * x .count) ((S ++ F) ++ B) (split bytes2 (x .mnsc)) p3 pe q r in
       p4 ∙ ap (put l 0) (simp append-assoc)
 
@@ -119,20 +118,21 @@ module _ (x : Fields) (l : List ℕ) (room : length l ≡ 6144) where
       let c = carried x (length m) (length l) y in
       let f = y .room in
       let q : 4 + (6 + 4 * k) ≡ 10 + 4 * k = omega arith in
-      let h : s ≡ sumOf H = es ∙ ap sumOf (ap (λ (r : List ℕ). between r 4 (10 + 4 * k)) pa ∙ (rw (i, n, q) at (part-put l S H))) in
       let l1 : length (S ++ H) ≡ 10 + 4 * k = simp length-append (omega arith) in
+      let h : s ≡ sumOf H = es ∙ ap sumOf (ap (λ (r : List ℕ). between r 4 (10 + 4 * k)) pa ∙ (rw (i, n, q) at (part-put l S H (omega arith)))) in
       let l2 : length ((S ++ H) ++ U) ≡ 10 + 4 * k + 2 = simp length-append (omega arith) in
       let l3 : length (((S ++ H) ++ U) ++ m) ≡ 10 + 4 * k + 2 + length m = simp length-append (omega arith) in
       let l4 : length ((((S ++ H) ++ U) ++ m) ++ E) ≡ 10 + 4 * k + 2 + length m + 8 = simp length-append (omega arith) in
       let p2 = put-chain l a b 0 (10 + 4 * k) (S ++ H) U pa (pb ∙ ap (λ (w : ℕ). put a (10 + 4 * k) (split bytes2 w)) h) (omega arith) (omega arith) in
       let p3 = put-chain l b d 0 (10 + 4 * k + 2) ((S ++ H) ++ U) m p2 pd (omega arith) (omega arith) in
       let u : t ≡ sumOf m =
-      et ∙ ap sumOf (ap (λ (r : List ℕ). between r (10 + 4 * k + 2) (10 + 4 * k + 2 + length m)) p3 ∙ (rw l2 at (part-put l ((S ++ H) ++ U) m))) in
+      et ∙ ap sumOf (ap (λ (r : List ℕ). between r (10 + 4 * k + 2) (10 + 4 * k + 2 + length m)) p3 ∙ (rw l2 at (part-put l ((S ++ H) ++ U) m (omega arith)))) in
       let pe = end-in x m d e (10 + 4 * k + 2 + length m) t u pt in
       let p4 = put-chain l d e 0 (10 + 4 * k + 2 + length m) (((S ++ H) ++ U) ++ m) E p3 pe (omega arith) (omega arith) in
       let o : length e ≡ length l = ap length p4 ∙ put-length l 0 ((((S ++ H) ++ U) ++ m) ++ E) (omega arith) in
       let z : length e - (10 + 4 * k + 2 + length m + 8) ≡ 6144 - carriedBy (flIn x) = omega arith in
       let P : List ℕ = replicate (6144 - carriedBy (flIn x)) 0x55 in
+      let lp : length P ≡ 6144 - carriedBy (flIn x) = simp length-replicate in
       let p5 =
       put-chain l e g 0 (10 + 4 * k + 2 + length m + 8) ((((S ++ H) ++ U) ++ m) ++ E) P p4
       (pg ∙ ap (λ (w : ℕ). put e (10 + 4 * k + 2 + length m + 8) (replicate w 0x55)) z) (omega arith) (omega arith) in

@@ -1,0 +1,3 @@
+pub mod Deciding
+pub mod SplitJoin
+pub mod Storing
