@@ -10,8 +10,8 @@ use borrow.Author.Tests.{le-ltb, ltb-false}
 use native.Mathlib.Numerals.{add-one}
 use native.Mathlib.Omega.{arith}
 use lib.Dec.{ltb}
-use lib.ListN.{length, set, replicate, length-append}
-use lib.Seq.{set-at, append-snoc}
+use lib.ListN.{length, getD, take, set, replicate, length-append, List·getD-append}
+use lib.Seq.{set-at, append-snoc, take-all, take-append-le, getD-at}
 use Rattle.frame.specs.declared.Stream.{Stream}
 use Rattle.frame.specs.Frame.{streamOf, streamsTo, stlTotal}
 use Rattle.frame.specs.Rules.{someStlAbove}
@@ -26,6 +26,25 @@ pub streams-length : (f : List ℕ) (n : ℕ) → length (streamsTo f n) ≡ n
 unfolding streamsTo
 streams-length f zero = refl
 streams-length f (suc n) = rw (length-append, streams-length f n) (add-one n)
+
+-- the first i of the first n entries, and the one at i
+pub streams-take : (f : List ℕ) (i n : ℕ) → i ≤ n → take i (streamsTo f n) ≡ streamsTo f i
+unfolding streamsTo
+streams-take f i zero h = let e : i ≡ 0 = omega arith in rw e
+streams-take f i (suc n) h =
+    ⊎-elim
+    (λ (e : i ≡ suc n). rw e (take-all (suc n) (streamsTo f (suc n)) (omega (arith, streams-length f (suc n)))))
+    (λ (l : i < suc n). take-append-le i (streamsTo f n) (streamOf f n ∷ []) (omega (arith, streams-length f n)) ∙ streams-take f i n (le-of-suc-le-suc l))
+    (eq-or-lt-of-le h)
+
+pub streams-at : (f : List ℕ) (i n : ℕ) → i < n → getD (streamsTo f n) i noStream ≡ streamOf f i
+unfolding streamsTo
+streams-at f i zero h = absurd (omega arith)
+streams-at f i (suc n) h =
+    ⊎-elim
+    (λ (e : i ≡ n). rw e (getD-at (streamsTo f n) (streamOf f n) [] noStream n (streams-length f n)))
+    (λ (l : i < n). List·getD-append (streamsTo f n) (streamOf f n ∷ []) noStream i (omega (arith, streams-length f n)) ∙ streams-at f i n l)
+    (eq-or-lt-of-le (le-of-suc-le-suc h))
 
 pub total-append : (ss ts : List Stream) → stlTotal (ss ++ ts) ≡ stlTotal ss + stlTotal ts
 unfolding stlTotal

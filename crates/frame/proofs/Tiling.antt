@@ -4,18 +4,18 @@ use mathlib.Core.Bool.{Bool, true, false}
 use mathlib.Core.List.{List, [], _∷_, _++_}
 use mathlib.Core.Logic.{⊎-elim}
 use mathlib.Core.Path.{_≡_, refl, sym, ap, subst, _∙_}
-use Prim.Native.Nat.{ℕ, zero, suc, _+_, _-_, _≤_, _<_}
+use Prim.Native.Nat.{ℕ, zero, suc, _+_, _-_, _*_, _≤_, _<_}
 use native.Mathlib.Nat.{zero-add, eq-or-lt-of-le, le-of-suc-le-suc}
 use native.Mathlib.Numerals.{add-one}
 use native.Mathlib.Omega.{arith}
 use lib.Dec.{eqb}
-use lib.ListN.{length}
-use lib.Seq.{take-add, drop-drop}
+use lib.ListN.{length, take, drop}
+use lib.Seq.{take-add, take-take, drop-drop}
 use denote.Ref.{RefT, now}
 use borrow.Author.Tests.{eq-eqb, ne-eqb, eqb-true, eqb-false}
 use Rattle.frame.specs.declared.Span.{Span}
 use Rattle.octets.specs.Choice.{pick}
-use Rattle.frame.specs.Frame.{nstOf, flOf, streamOf, streamsTo, stlTotal, mainStart, mainEnd, mainSpan, ficSpan, streamSpan, spansTo, Tile, cuts, mainOf, carriedBy, between}
+use Rattle.frame.specs.Frame.{nstOf, flOf, ficlOf, streamOf, streamsTo, stlTotal, mainStart, mainEnd, mainSpan, ficSpan, streamSpan, spansTo, Tile, cut, cuts, mainOf, carriedBy, between}
 use Rattle.frame.specs.Rules.{refusalOf, Acceptable, streamRefusalOf, granted, mainPart, ficPart, streamPart}
 use Rattle.frame.specs.Answers.{PartAt}
 use Rattle.frame.proofs.Accepting.{acceptable, request-refused, request-granted}
@@ -81,6 +81,26 @@ tile-cuts f a (s ∷ ss) e t =
 -- the FIC's bytes and then each stream's are the main stream
 pub parts-join : (f : List ℕ) → Acceptable f → cuts f (spansTo f (nstOf f)) ≡ mainOf f
 parts-join f a = tile-cuts f (mainStart (nstOf f)) (spansTo f (nstOf f)) (mainEnd (flOf f)) (tiles f a)
+
+-- the FIC and each stream, as parts of the main stream
+cut-within : (a n m : ℕ) (l : List ℕ) → a + n ≤ m → take n (drop a (take m l)) ≡ take n (drop a l)
+cut-within zero n m l h = take-take n m l (omega arith)
+cut-within (suc a) n zero l h = absurd (omega arith)
+cut-within (suc a) n (suc m) [] h = refl
+cut-within (suc a) n (suc m) (x ∷ l) h = cut-within a n m l (omega arith)
+
+of-main : (f : List ℕ) (p n s : ℕ) → s ≡ mainStart (nstOf f) + p → p + n ≤ mainEnd (flOf f) - mainStart (nstOf f) → take n (drop s f) ≡ take n (drop p (mainOf f))
+of-main f p n s e h =
+    rw e (ap (take n) (sym (drop-drop p (mainStart (nstOf f)) f)) ∙ sym (cut-within p n (mainEnd (flOf f) - mainStart (nstOf f)) (drop (mainStart (nstOf f)) f) h))
+
+pub fic-of-main : (f : List ℕ) → Acceptable f → cut f (ficSpan f) ≡ take (4 * ficlOf f) (mainOf f)
+fic-of-main f a = of-main f 0 (4 * ficlOf f) (mainStart (nstOf f)) (omega arith) (omega (arith, a .formula))
+
+pub stream-of-main : (f : List ℕ) (i : ℕ) → Acceptable f → i < nstOf f
+    → cut f (streamSpan f i) ≡ take (8 * streamOf f i .stl) (drop (4 * ficlOf f + 8 * stlTotal (streamsTo f i)) (mainOf f))
+stream-of-main f i a l =
+    of-main f (4 * ficlOf f + 8 * stlTotal (streamsTo f i)) (8 * streamOf f i .stl) (streamSpan f i .start) (omega arith)
+    (let w = total-within f i (nstOf f) l in omega (arith, a .formula))
 
 -- ---- what a request hands back
 module _ (n m : ℕ) (s : Span) (e : n ≡ m) where

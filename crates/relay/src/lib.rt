@@ -1,10 +1,13 @@
-// A frame lent is read and written again into an output lent, with the level that reading handed on.
+// Both round trips as running code: a frame read and written again, with the level that reading handed on, and fields written and read back.
 ghost use mathlib.Core.Path.{_≡_};
 ghost use Rattle.frame.specs.Rules.{refusalOf};
+ghost use lib.ListN.{length};
+ghost use Rattle.relay.specs.Back.{ReadsBack};
 ghost use Rattle.relay.specs.Relaying.{fieldsWith, fieldsFor, Relays};
 use frame::Answer;
 use frame::Fields;
 use frame::Header;
+use frame::Reading;
 use frame::Stream;
 
 fn fields(h: Header, table: [Stream; 64]) -> Fields
@@ -44,4 +47,26 @@ pub fn relay(frame: &[u8], out: &mut [u8]) -> u8
         Answer::Accepted(h) => again(frame, fields(h, table), out),
         Answer::Refused(n) => n,
     }
+}
+
+// A table has 64 entries: told of an array, since a struct that holds one does not tell it.
+fn whole(table: [Stream; 64])
+    ensures { λ _. ⌜ length table ≡ 64 ⌝ }
+{
+}
+
+// The fields and the main stream lent are written into the output lent, which is then read: writing's refusal, or the fields again.
+pub fn write_read(fields: Fields, main: &[u8], out: &mut [u8]) -> Reading
+    ensures { λ r. ⌜ ReadsBack fields (now (main .entry)) (now (out .entry)) (now (out .exit)) r ⌝ }
+{
+    let table = fields.table;
+    whole(table);
+    let refusal = writing::write(fields, main, out);
+    if refusal != 0 {
+        return Reading {
+            answer: Answer::Refused(refusal),
+            table: reading::no_streams(),
+        };
+    }
+    reading::read(out)
 }
