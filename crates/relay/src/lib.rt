@@ -52,8 +52,7 @@ pub fn relay(frame: &[u8], out: &mut [u8]) -> u8
 // A table has 64 entries: told of an array, since a struct that holds one does not tell it.
 fn whole(table: [Stream; 64])
     ensures { λ _. ⌜ length table ≡ 64 ⌝ }
-{
-}
+{}
 
 // The fields and the main stream lent are written into the output lent, which is then read: writing's refusal, or the fields again.
 pub fn write_read(fields: Fields, main: &[u8], out: &mut [u8]) -> Reading
