@@ -2,7 +2,7 @@
 # a line for each value, 'at NAME OFFSET BYTES'; for each whole, 'whole NAME BYTES'; for each refusal number, 'number N'.
 function name(value) {
     if (value ~ /placeOf/) return "ITEM"
-    if (value ~ /(In|By) [(a-z]/) sub(/(In|By) .*/, "", value)
+    if (value ~ /(In|By|Of) [(a-z]/) sub(/(In|By|Of) .*/, "", value)
     gsub(/digit|[() ]|\.[0-9]/, "", value)
     sub(/^.*\./, "", value)
     return toupper(value)
@@ -16,18 +16,15 @@ function lay(values, counts, from,    v, c, n, i) {
     }
     return from
 }
-# a piece 'inBytes N (VALUE)'
-function number(piece, from,    w) {
-    split(piece, w, " ")
-    return lay(piece " ∷ []", w[2], from)
+# a piece 'encode (COUNTS) (VALUES)'
+function number(piece, from,    counts, values) {
+    counts = piece; sub(/^encode \(/, "", counts); sub(/\) \(.*/, "", counts)
+    values = piece; sub(/^.*\[\]\) \(/, "", values)
+    return lay(values, counts, from)
 }
 { left = $0; sub(/^.* = /, "", left) }
-/^(first|second|stream)Values .* = / || /^(first|second|stream)Counts = / || /^marks .* = / { is[$1] = left }
-/^partBytes .* = / {
-    counts = left; sub(/^encode \(/, "", counts); sub(/\) .*/, "", counts)
-    values = left; sub(/^.*\[\]\) \(/, "", values)
-    print "whole PART", lay(values, counts, 0)
-}
+/^(first|second|stream|marks)Values .* = / || /^(first|second|stream|marks)Counts = / { is[$1] = left }
+/^partBytes .* = / { print "whole PART", number(left, 0) }
 /^stepBytes .* = / { steps = left }
 FILENAME !~ /Writing/ && match($0, /\([0-9]+ when /) { print "number", substr($0, RSTART + 1, RLENGTH - 7) }
 END {
@@ -37,6 +34,6 @@ END {
     print "whole ENTRY", entry
     print "whole ANSWER", table + 64 * entry
     split(steps, piece, / \+\+ /)
-    at = lay(is["marks"], "1 ∷ 1 ∷ 1 ∷ 1", number(piece[1], 0))
+    at = lay(is["marksValues"], is["marksCounts"], number(piece[1], 0))
     print "whole WALK", number(piece[3], at)
 }

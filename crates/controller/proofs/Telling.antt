@@ -25,7 +25,7 @@ use Rattle.frame.proofs.Headers.{header-values, time-of-lt}
 use Rattle.frame.proofs.Timestamps.{time-kept}
 use Rattle.controller.specs.Boundary.{encode, headCounts, tableBytes, answerOf, stateRefusalOf, lentRefusal, Told}
 use Rattle.walk.specs.declared.State.{State}
-use Rattle.walk.specs.Records.{judged, stepShown, stepAt}
+use Rattle.walk.specs.Records.{judged, stepWith, stepAt}
 use Rattle.walk.proofs.Misses.{misses-within}
 
 -- ---- the three outcomes of an export with n answer bytes
@@ -81,6 +81,6 @@ pub lock-fits : (w : List ℕ) → getD w 9 0 ≤ 1 → 0 ≡ stateRefusalOf w
 unfolding stateRefusalOf
 lock-fits w h = rw (le-ltb 1 (getD w 9 0) h)
 
-pub few-misses : (bytes : List ℕ) (s : State) → s .misses ≤ 255 → stepAt bytes s .walk .misses ≤ 255
-unfolding stepAt stepShown judged
+pub few-misses : (bytes : List ℕ) (s : State) → s .misses ≤ 255 → stepAt 3 bytes s .walk .misses ≤ 255
+unfolding stepAt stepWith judged
 few-misses bytes s h = misses-within (judged 3 bytes) (omega arith) 255 (omega arith) s h

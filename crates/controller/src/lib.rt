@@ -8,7 +8,8 @@ ghost use Rattle.octets.specs.Stores.{put};
 ghost use Rattle.frame.specs.Rules.{refusalOf, streamRefusalOf, ficPart, streamPart};
 ghost use Rattle.frame.specs.Answers.{digit, sortOf, headerValues, timeBy};
 ghost use Rattle.frame.specs.Writing.{streamValues};
-ghost use Rattle.controller.specs.Boundary.{inBytes, encode, headCounts, firstCounts, firstValues, secondCounts, secondValues, streamCounts, tableBytes, answerOf, partBytes, kindIn, lostIn, placeOf, marks, stepBytes, stateIn, walkOf, stateRefusalOf, Told};
+ghost use Rattle.walk.specs.ItemValues.{kindOf, placeOf, lostOf};
+ghost use Rattle.controller.specs.Boundary.{encode, headCounts, firstCounts, firstValues, secondCounts, secondValues, streamBytes, tableBytes, answerOf, partBytes, marksCounts, marksValues, stepBytes, stateIn, walkOf, stateRefusalOf, Told};
 use frame::Answer;
 use frame::Header;
 use frame::Span;
@@ -45,15 +46,15 @@ fn time(t: Timestamp) -> u32
 // An entry in six bytes.
 fn put_stream(out: &mut [u8], at: usize, s: Stream)
     requires { ⌜ at + 6 ≤ length (now out) ⌝ }
-    ensures { λ _. ⌜ now (out .exit) ≡ put (now (out .entry)) at (encode streamCounts (streamValues s)) ⌝ }
+    ensures { λ _. ⌜ now (out .exit) ≡ put (now (out .entry)) at (streamBytes s) ⌝ }
 {
     let sad = s.sad;
     let stl = s.stl;
     out[at] = s.scid;
-    out[at + 1] = (sad / 256) as u8;
+    out[at + 1] = (sad / 256 % 256) as u8;
     out[at + 2] = (sad % 256) as u8;
     out[at + 3] = s.tpl;
-    out[at + 4] = (stl / 256) as u8;
+    out[at + 4] = (stl / 256 % 256) as u8;
     out[at + 5] = (stl % 256) as u8;
 }
 
@@ -84,7 +85,7 @@ fn put_first(out: &mut [u8], h: Header)
     out[4] = h.nst;
     out[5] = h.fp;
     out[6] = h.mid;
-    out[7] = (fl / 256) as u8;
+    out[7] = (fl / 256 % 256) as u8;
     out[8] = (fl % 256) as u8;
 }
 
@@ -98,13 +99,13 @@ fn put_second(out: &mut [u8], h: Header)
     let timestamp = h.timestamp;
     let sort = sort(timestamp);
     let time = time(timestamp);
-    out[9] = (mnsc / 256) as u8;
+    out[9] = (mnsc / 256 % 256) as u8;
     out[10] = (mnsc % 256) as u8;
-    out[11] = (rfu / 256) as u8;
+    out[11] = (rfu / 256 % 256) as u8;
     out[12] = (rfu % 256) as u8;
     out[13] = h.rfa;
     out[14] = sort;
-    out[15] = (time / 256 / 256) as u8;
+    out[15] = (time / 65536 % 256) as u8;
     out[16] = (time / 256 % 256) as u8;
     out[17] = (time % 256) as u8;
 }
@@ -145,9 +146,9 @@ fn put_part(out: &mut [u8], part: Span)
 {
     let start = part.start;
     let len = part.len;
-    out[0] = (start / 256) as u8;
+    out[0] = (start / 256 % 256) as u8;
     out[1] = (start % 256) as u8;
-    out[2] = (len / 256) as u8;
+    out[2] = (len / 256 % 256) as u8;
     out[3] = (len % 256) as u8;
 }
 
@@ -183,40 +184,19 @@ pub extern "C" fn spindlewren_stream(frame: &[u8], i: usize, answer: &mut [u8]) 
     0
 }
 
-fn byte(bytes: &[u8], at: usize) -> usize
-    requires { ⌜ at < length (now bytes) ⌝ }
-    ensures { λ r. ⌜ (r ≡ getD (now (bytes .entry)) at 0) × (r < 256) ⌝ }
-{
-    bytes[at] as usize
-}
-
-// The word that begins at a place.
-fn word(bytes: &[u8], at: usize) -> usize
-    requires { ⌜ at + 3 < length (now bytes) ⌝ }
-    ensures { λ r. ⌜ (r ≡ wordAt (now (bytes .entry)) at) × (r < 4294967296) ⌝ }
-{
-    byte(bytes, at) * 16777216
-        + byte(bytes, at + 1) * 65536
-        + byte(bytes, at + 2) * 256
-        + byte(bytes, at + 3)
-}
-
 // The walk's state, as its first ten bytes have it.
 fn state_in(walk: &[u8]) -> State
-    requires { ⌜ length (now walk) ≡ 20 ⌝ }
     ensures { λ r. ⌜ (r ≡ stateIn (now (walk .entry))) × (r .misses ≤ 255) ⌝ }
 {
-    let high = word(walk, 0);
-    let low = word(walk, 4);
     State {
-        place: high * 4294967296 + low,
-        misses: byte(walk, 8),
-        lock: byte(walk, 9) == 1,
+        place: octets::eight(walk, 0),
+        misses: octets::byte(walk, 8),
+        lock: octets::byte(walk, 9) == 1,
     }
 }
 
 fn kind(item: Item) -> u8
-    ensures { λ r. ⌜ r ≡ kindIn item ⌝ }
+    ensures { λ r. ⌜ r ≡ kindOf item ⌝ }
 {
     match item {
         Item::Frame(_, _) => 0,
@@ -226,7 +206,7 @@ fn kind(item: Item) -> u8
 }
 
 fn lost(item: Item) -> u8
-    ensures { λ r. ⌜ r ≡ lostIn item ⌝ }
+    ensures { λ r. ⌜ (r ≡ lostOf item) × (r < 256) ⌝ }
 {
     match item {
         Item::Frame(_, _) => 0,
@@ -245,25 +225,10 @@ fn place(item: Item) -> usize
     }
 }
 
-// A place in eight bytes.
-fn put_place(out: &mut [u8], at: usize, n: usize)
-    requires { ⌜ at + 8 ≤ length (now out) ⌝ }
-    ensures { λ _. ⌜ now (out .exit) ≡ put (now (out .entry)) at (inBytes 8 n) ⌝ }
-{
-    out[at] = (n / 256 / 256 / 256 / 256 / 256 / 256 / 256) as u8;
-    out[at + 1] = (n / 256 / 256 / 256 / 256 / 256 / 256 % 256) as u8;
-    out[at + 2] = (n / 256 / 256 / 256 / 256 / 256 % 256) as u8;
-    out[at + 3] = (n / 256 / 256 / 256 / 256 % 256) as u8;
-    out[at + 4] = (n / 256 / 256 / 256 % 256) as u8;
-    out[at + 5] = (n / 256 / 256 % 256) as u8;
-    out[at + 6] = (n / 256 % 256) as u8;
-    out[at + 7] = (n % 256) as u8;
-}
-
 // Misses and lock, and the kind and refusal number of the item, from byte 8 on.
 fn put_marks(out: &mut [u8], item: Item, walk: State)
     requires { ⌜ (length (now out) ≡ 20) × (walk .misses ≤ 255) ⌝ }
-    ensures { λ _. ⌜ now (out .exit) ≡ put (now (out .entry)) 8 (marks item walk) ⌝ }
+    ensures { λ _. ⌜ now (out .exit) ≡ put (now (out .entry)) 8 (encode marksCounts (marksValues item walk)) ⌝ }
 {
     let lock = bit(walk.lock);
     let kind = kind(item);
@@ -280,9 +245,9 @@ fn put_step(out: &mut [u8], item: Item, walk: State)
     ensures { λ _. ⌜ now (out .exit) ≡ stepBytes item walk ⌝ }
 {
     let at = place(item);
-    put_place(out, 0, walk.place);
+    octets::put8(out, 0, walk.place);
     put_marks(out, item, walk);
-    put_place(out, 12, at);
+    octets::put8(out, 12, at);
 }
 
 // A step of the walk whose state is in the lent bytes: they then hold the advanced walk and its item. Any bytes are taken.

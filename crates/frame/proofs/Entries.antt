@@ -1,7 +1,7 @@
 -- The entries of a table of any length, one more at a time.
 -- Assumes nothing.
 use mathlib.Core.Bool.{Bool, _||_}
-use mathlib.Core.List.{List, [], _∷_, _++_, append-assoc, append-nil}
+use mathlib.Core.List.{List, [], _∷_, _++_, append-assoc}
 use mathlib.Core.Path.{_≡_, refl, sym, ap, _∙_}
 use Prim.Native.Nat.{ℕ, _+_, _*_, _<_}
 use native.Mathlib.Numerals.{add-one}
@@ -10,11 +10,11 @@ use lib.Dec.{ltb}
 use lib.ListN.{length, getD, take, length-append}
 use lib.Seq.{take-suc}
 use Rattle.frame.specs.declared.Stream.{Stream}
-use Rattle.octets.specs.Words.{split, join, bytes4}
 use Rattle.frame.specs.Frame.{sstcWidths, stlTotal}
 use Rattle.frame.specs.Rules.{someStlAbove}
 use Rattle.frame.specs.Answers.{noStream}
-use Rattle.frame.specs.Writing.{someWider, streamValues, someStreamWider, streamsBytes}
+use Rattle.octets.proofs.Storing.{each-append, each-length}
+use Rattle.frame.specs.Writing.{someWider, streamValues, someStreamWider, streamBytes, streamsBytes}
 use Rattle.octets.proofs.Deciding.{or-assoc, or-false}
 use Rattle.frame.proofs.Streams.{total-append, some-append}
 
@@ -27,13 +27,11 @@ wider-append (s ∷ ss) ts =
 
 pub bytes-append : (ss ts : List Stream) → streamsBytes (ss ++ ts) ≡ streamsBytes ss ++ streamsBytes ts
 unfolding streamsBytes
-bytes-append [] ts = refl
-bytes-append (s ∷ ss) ts = rw (bytes-append ss ts, append-assoc)
+bytes-append ss ts = each-append streamBytes ss ts
 
 pub bytes-length : (ss : List Stream) → length (streamsBytes ss) ≡ 4 * length ss
 unfolding streamsBytes
-bytes-length [] = refl
-bytes-length (s ∷ ss) = rw (length-append, bytes-length ss) (omega arith)
+bytes-length ss = each-length streamBytes 4 (λ s. refl) ss
 
 module _ (t : List Stream) (i : ℕ) (h : i < length t) where
   abbrev entry : Stream
@@ -54,7 +52,3 @@ module _ (t : List Stream) (i : ℕ) (h : i < length t) where
   unfolding someStreamWider
   wider-take =
       rw (take-more, wider-append) (ap (λ (b : Bool). someStreamWider (take i t) || b) (or-false (someWider sstcWidths (streamValues entry))))
-
-  pub bytes-take : streamsBytes (take (i + 1) t) ≡ streamsBytes (take i t) ++ split bytes4 (join sstcWidths (streamValues entry))
-  unfolding streamsBytes
-  bytes-take = rw (take-more, bytes-append, append-nil)

@@ -13,6 +13,7 @@ use Rattle.frame.specs.declared.Timestamp.{Timestamp}
 use Rattle.frame.specs.declared.Timestamp.the-variants.{Absent, Time}
 use Rattle.octets.specs.Words.{split, join, bytes2, bytes4}
 use Rattle.octets.specs.Choice.{pick}
+use Rattle.octets.specs.Stores.{bytesOfEach}
 use Rattle.frame.specs.Frame.{syncWidths, statusBy, fsyncBy, fcWidths, flOf, ficlBy, sstcWidths, stlTotal, flBy, mainOf, mainSumOf, tistWidths, carriedBy}
 use Rattle.frame.specs.Rules.{Rule, _when_, first, someStlAbove}
 use Rattle.frame.specs.Answers.{digit, timeBy, timestampValues}
@@ -73,9 +74,12 @@ unfoldable pub writingRefusalOf : Fields → ℕ → ℕ → ℕ
 writingRefusalOf x main out = first (writingRulesOf x main out)
 
 -- ---- the frame
+-- the entries, a word for each
+abbrev pub streamBytes : Stream → List ℕ
+streamBytes s = split bytes4 (join sstcWidths (streamValues s))
+
 unfoldable pub streamsBytes : List Stream → List ℕ
-streamsBytes [] = []
-streamsBytes (s ∷ ss) = split bytes4 (join sstcWidths (streamValues s)) ++ streamsBytes ss
+streamsBytes ss = bytesOfEach streamBytes ss
 
 -- figure 6, SYNC
 unfoldable pub syncIn : Fields → List ℕ

@@ -1,15 +1,15 @@
 -- Stores one after the other: what stands in a lent slice so far.
 -- Assumes nothing.
 use mathlib.Core.List.{List, [], _∷_, _++_, append-assoc, append-nil}
-use mathlib.Core.Path.{_≡_, sym, ap, ap₂, _∙_}
-use Prim.Native.Nat.{ℕ, _+_, _/_, _%_, _≤_, _<_}
-use native.Mathlib.Nat.{zero-add, add-assoc}
+use mathlib.Core.Path.{_≡_, refl, sym, ap, ap₂, _∙_}
+use Prim.Native.Nat.{ℕ, suc, _+_, _*_, _/_, _%_, _≤_, _<_}
+use native.Mathlib.Nat.{zero-add, add-assoc, mul-zero, mul-suc, mul-le-mul-left}
 use native.Mathlib.Numerals.{add-one}
 use native.Mathlib.Omega.{arith}
 use borrow.Author.Tests.{le-leb, lt-leb}
 use lib.ListN.{length, getD, take, drop, set, length-set, length-append, length-drop}
 use lib.Seq.{length-take-le, take-at, drop-at, drop-drop, drop-length, take-suc, sets-eq}
-use Rattle.octets.specs.Stores.{put}
+use Rattle.octets.specs.Stores.{put, bytesOfEach}
 
 module _ (l : List ℕ) (at : ℕ) (us : List ℕ) (h : at + length us ≤ length l) where
   -- where there is room
@@ -106,3 +106,31 @@ copy-more l at m i h k =
     let e : length (take i m) ≡ i = length-take-le i m (omega arith) in
     rw (add-one i, take-suc m i 0 k)
     (ap (λ (n : ℕ). set (put l at (take i m)) (at + n) (getD m i 0)) (sym e) ∙ put-more l at (take i m) (getD m i 0) (omega arith))
+
+pub alone : (v : ℕ) → v < 256 → v / 1 % 256 ≡ v
+alone v h = omega arith
+
+-- ---- the bytes of a row of things, k for each
+pub each-append : {A : Type 0} (f : A → List ℕ) (xs ys : List A) → bytesOfEach f (xs ++ ys) ≡ bytesOfEach f xs ++ bytesOfEach f ys
+each-append f [] ys = refl
+each-append f (x ∷ xs) ys = rw (each-append f xs ys) (sym (append-assoc (f x) (bytesOfEach f xs) (bytesOfEach f ys)))
+
+module _ {A : Type 0} (f : A → List ℕ) (k : ℕ) (each : (x : A) → length (f x) ≡ k) where
+  pub each-length : (xs : List A) → length (bytesOfEach f xs) ≡ k * length xs
+  each-length [] = sym (mul-zero k)
+  each-length (x ∷ xs) = rw (length-append, each x, each-length xs, mul-suc k (length xs)) (omega arith)
+
+  -- a turn of a loop that stores one of them more
+  pub each-put : (d : A) (l : List ℕ) (at : ℕ) (t : List A) (i : ℕ) → at + k * length t ≤ length l → i < length t
+      → put (put l at (bytesOfEach f (take i t))) (at + k * i) (f (getD t i d)) ≡ put l at (bytesOfEach f (take (i + 1) t))
+  each-put d l at t i room h =
+      let n : length (take i t) ≡ i = length-take-le i t (omega arith) in
+      let m : length (bytesOfEach f (take i t)) ≡ k * i = each-length (take i t) ∙ ap (λ (j : ℕ). k * j) n in
+      let one = each (getD t i d) in
+      let below : k * i + k ≤ k * length t = rw (mul-suc k i) at (mul-le-mul-left {m = suc i} {n = length t} k h) in
+      let more : bytesOfEach f (take (i + 1) t) ≡ bytesOfEach f (take i t) ++ f (getD t i d) =
+      ap (λ (j : ℕ). bytesOfEach f (take j t)) (add-one i)
+      ∙ ap (bytesOfEach f) (take-suc t i d h)
+      ∙ each-append f (take i t) (getD t i d ∷ [])
+      ∙ ap (λ (r : List ℕ). bytesOfEach f (take i t) ++ r) (append-nil (f (getD t i d))) in
+      rw (more, ← m) (put-then l at (bytesOfEach f (take i t)) (f (getD t i d)) (omega arith))

@@ -7,22 +7,11 @@ use mathlib.Core.List.{[], _∷_}
 use native.Mathlib.Omega.{arith}
 use lib.Dec.{eqb, leb}
 use borrow.Author.Tests.{leb-true, eqb-true, eqb-false, le-leb, eq-eqb, ne-eqb}
+use Rattle.frame.specs.declared.Header.{Header}
 use Rattle.octets.specs.Choice.{pick}
-use Rattle.walk.specs.Walk.{Judged, frame, lost, done, confirmed, live, itemAt, keeps, lookLocked, lookHunting, look, left, looksIn, looks, giving, itemsOf, items, restIn, rest, stepBy, stepIn, stepOf, calls, begin}
-use Rattle.walk.specs.Demand3.{Ends}
-use Rattle.walk.proofs.Rules.{and-left}
-
--- THE SUPPOSITIONS CAN BE MET: n intact frames after a damaged bytes, of which any places stand with any sync words, up to 6,144 bytes before the first frame
-abbrev pub damaged : ℕ → (ℕ → Bool) → (ℕ → Bool) → ℕ → ℕ → Judged
-damaged limit stood word a n =
-    record {
-      len = a + n * 6144;
-      period = 6144;
-      limit = limit;
-      stands = λ q. pick (leb a q) (eqb ((q - a) % 6144) 0) (leb (q + 6144) a && stood q);
-      sync = λ q. pick (leb a q) (eqb ((q - a) / 6144 % 2) 0) (word q);
-      number = λ q. 2;
-    }
+use Rattle.walk.specs.Walk.{Judged, Frame, Lost, Done, confirmed, live, itemAt, keeps, lookLocked, lookHunting, look, left, looksIn, looks, giving, itemsOf, items, restIn, rest, stepBy, stepIn, stepOf, calls, begin}
+use Rattle.walk.specs.AnyJudging.{Ends}
+use Rattle.walk.proofs.ByRules.{and-left}
 
 turn : (x : ℕ) → eqb (suc x % 2) 0 ≡ not (eqb (x % 2) 0)
 turn x = go (eqb (x % 2) 0) refl
@@ -31,64 +20,80 @@ turn x = go (eqb (x % 2) 0) refl
     go true e = rw e (ne-eqb (suc x % 2) 0 (λ w. omega (arith, eqb-true (x % 2) 0 e)))
     go false e = rw e (eq-eqb (suc x % 2) 0 (omega (arith, eqb-false (x % 2) 0 e)))
 
-pub damaged-ends : (limit : ℕ) (stood word : ℕ → Bool) (a n : ℕ) → Ends (damaged limit stood word a n) a n
-unfolding keeps
-damaged-ends limit stood word a n =
-    record {
-      whole = refl;
-      intact = λ i h. rw (le-leb a (a + i * 6144) (omega arith), eq-eqb ((a + i * 6144 - a) % 6144) 0 (omega arith));
-      alternating = λ i h. rw (le-leb a (a + i * 6144) (omega arith), le-leb a (a + suc i * 6144) (omega arith), let q : (a + suc i * 6144 - a) / 6144 ≡ suc i = omega arith in q, let q : (a + i * 6144 - a) / 6144 ≡ i = omega arith in q) (turn i);
-      alone = λ q z room e. go q z room (leb a q) refl e;
-    }
-  where
-    go : (q : ℕ) → a < q + 6144 → q + 6144 ≤ a + n * 6144 → (b : Bool) → leb a q ≡ b → pick b (eqb ((q - a) % 6144) 0) (leb (q + 6144) a && stood q) ≡ true → (i : ℕ) × (i < n) × (q ≡ a + i * 6144)
-    go q z room true l e =
-        let h : a ≤ q = leb-true a q l in
-        let w : (q - a) % 6144 ≡ 0 = eqb-true ((q - a) % 6144) 0 e in
-        ((q - a) / 6144, omega arith, omega arith)
-    go q z room false l e = absurd (omega (arith, leb-true (q + 6144) a (and-left (leb (q + 6144) a) (stood q) e)))
+-- whatever headers reading gives
+module _ (header : ℕ → Header) where
+  -- THE SUPPOSITIONS CAN BE MET: n intact frames after a damaged bytes, of which any places stand with any sync words, up to 6,144 bytes before the first frame
+  abbrev pub damaged : ℕ → (ℕ → Bool) → (ℕ → Bool) → ℕ → ℕ → Judged
+  damaged limit stood word a n =
+      record {
+        len = a + n * 6144;
+        period = 6144;
+        limit = limit;
+        stands = λ q. pick (leb a q) (eqb ((q - a) % 6144) 0) (leb (q + 6144) a && stood q);
+        sync = λ q. pick (leb a q) (eqb ((q - a) / 6144 % 2) 0) (word q);
+        header = header;
+        number = λ q. 2;
+      }
 
--- THE FIRST PART IS SHARP: two false frames at another phase before the intact ones, which begin at 12,388
-abbrev pub off-phase : ℕ → Judged
-off-phase n = damaged 3 (λ q. eqb (q % 6144) 0) (λ q. eqb (q / 6144 % 2) 0) 12388 n
+  pub damaged-ends : (limit : ℕ) (stood word : ℕ → Bool) (a n : ℕ) → Ends (damaged limit stood word a n) a n
+  unfolding keeps
+  damaged-ends limit stood word a n =
+      record {
+        whole = refl;
+        intact = λ i h. rw (le-leb a (a + i * 6144) (omega arith), eq-eqb ((a + i * 6144 - a) % 6144) 0 (omega arith));
+        alternating = λ i h. rw (le-leb a (a + i * 6144) (omega arith), le-leb a (a + suc i * 6144) (omega arith), let q : (a + suc i * 6144 - a) / 6144 ≡ suc i = omega arith in q, let q : (a + i * 6144 - a) / 6144 ≡ i = omega arith in q) (turn i);
+        alone = λ q z room e. go q z room (leb a q) refl e;
+      }
+    where
+      go : (q : ℕ) → a < q + 6144 → q + 6144 ≤ a + n * 6144 → (b : Bool) → leb a q ≡ b → pick b (eqb ((q - a) % 6144) 0) (leb (q + 6144) a && stood q) ≡ true → (i : ℕ) × (i < n) × (q ≡ a + i * 6144)
+      go q z room true l e =
+          let h : a ≤ q = leb-true a q l in
+          let w : (q - a) % 6144 ≡ 0 = eqb-true ((q - a) % 6144) 0 e in
+          ((q - a) / 6144, omega arith, omega arith)
+      go q z room false l e = absurd (omega (arith, leb-true (q + 6144) a (and-left (leb (q + 6144) a) (stood q) e)))
 
-pub off-phase-ends : (n : ℕ) → Ends (off-phase n) 12388 n
-off-phase-ends n = damaged-ends 3 (λ q. eqb (q % 6144) 0) (λ q. eqb (q / 6144 % 2) 0) 12388 n
+  -- THE FIRST PART IS SHARP: two false frames at another phase before the intact ones, which begin at 12,388
+  abbrev pub off-phase : ℕ → Judged
+  off-phase n = damaged 3 (λ q. eqb (q % 6144) 0) (λ q. eqb (q / 6144 % 2) 0) 12388 n
 
--- of four intact frames the first two, at 12,388 and 18,532, are not handed out
-pub first-two-lost : items (off-phase 4) begin ≡ frame 0 ∷ frame 6144 ∷ lost 12288 2 ∷ lost 18432 2 ∷ lost 24576 2 ∷ frame 24676 ∷ frame 30820 ∷ []
-unfolding items itemsOf giving looks looksIn left look lookLocked lookHunting itemAt keeps live confirmed
-first-two-lost = refl
+  pub off-phase-ends : (n : ℕ) → Ends (off-phase n) 12388 n
+  off-phase-ends n = damaged-ends 3 (λ q. eqb (q % 6144) 0) (λ q. eqb (q / 6144 % 2) 0) 12388 n
 
--- and of three none is, so that four must be asked for
-pub three-too-few : items (off-phase 3) begin ≡ frame 0 ∷ frame 6144 ∷ lost 12288 2 ∷ lost 18432 2 ∷ lost 24576 2 ∷ []
-unfolding items itemsOf giving looks looksIn left look lookLocked lookHunting itemAt keeps live confirmed
-three-too-few = refl
+  -- of four intact frames the first two, at 12,388 and 18,532, are not handed out
+  pub first-two-lost : items (off-phase 4) begin ≡ Frame 0 (header 0) ∷ Frame 6144 (header 6144) ∷ Lost 12288 2 ∷ Lost 18432 2 ∷ Lost 24576 2 ∷ Frame 24676 (header 24676) ∷ Frame 30820 (header 30820) ∷ []
+  unfolding items itemsOf giving looks looksIn left look lookLocked lookHunting itemAt keeps live confirmed
+  first-two-lost = refl
 
--- THE CASES OF 01: four frames, the third's sync word broken
-abbrev pub four : Judged
-four =
-    record {
-      len = 24576;
-      period = 6144;
-      limit = 3;
-      stands = λ p. eqb p 0 || (eqb p 6144 || eqb p 18432);
-      sync = λ p. eqb (p / 6144 % 2) 0;
-      number = λ p. 2;
-    }
+  -- and of three none is, so that four must be asked for
+  pub three-too-few : items (off-phase 3) begin ≡ Frame 0 (header 0) ∷ Frame 6144 (header 6144) ∷ Lost 12288 2 ∷ Lost 18432 2 ∷ Lost 24576 2 ∷ []
+  unfolding items itemsOf giving looks looksIn left look lookLocked lookHunting itemAt keeps live confirmed
+  three-too-few = refl
 
-pub listing : items four begin ≡ frame 0 ∷ frame 6144 ∷ lost 12288 2 ∷ frame 18432 ∷ []
-unfolding items itemsOf giving looks looksIn left look lookLocked lookHunting itemAt keeps live confirmed
-listing = refl
+  -- THE CASES OF 01: four frames, the third's sync word broken
+  abbrev pub four : Judged
+  four =
+      record {
+        len = 24576;
+        period = 6144;
+        limit = 3;
+        stands = λ p. eqb p 0 || (eqb p 6144 || eqb p 18432);
+        sync = λ p. eqb (p / 6144 % 2) 0;
+        header = header;
+        number = λ p. 2;
+      }
 
-pub listing-end : rest four begin .place ≡ 24576
-unfolding rest restIn looks looksIn left look lookLocked lookHunting itemAt keeps live confirmed
-listing-end = refl
+  pub listing : items four begin ≡ Frame 0 (header 0) ∷ Frame 6144 (header 6144) ∷ Lost 12288 2 ∷ Frame 18432 (header 18432) ∷ []
+  unfolding items itemsOf giving looks looksIn left look lookLocked lookHunting itemAt keeps live confirmed
+  listing = refl
 
--- a record of one frame yields only done, at place 1
-abbrev pub one : Judged
-one = record { len = 6144; period = 6144; limit = 3; stands = λ p. eqb p 0; sync = λ p. true; number = λ p. 2 }
+  pub listing-end : rest four begin .place ≡ 24576
+  unfolding rest restIn looks looksIn left look lookLocked lookHunting itemAt keeps live confirmed
+  listing-end = refl
 
-pub one-frame : calls one 2 begin ≡ done 1 ∷ done 1 ∷ []
-unfolding calls stepOf stepIn stepBy looks looksIn left look lookLocked lookHunting itemAt keeps live confirmed
-one-frame = refl
+  -- a record of one frame yields only done, at place 1
+  abbrev pub one : Judged
+  one = record { len = 6144; period = 6144; limit = 3; stands = λ p. eqb p 0; sync = λ p. true; header = header; number = λ p. 2 }
+
+  pub one-frame : calls one 2 begin ≡ Done 1 ∷ Done 1 ∷ []
+  unfolding calls stepOf stepIn stepBy looks looksIn left look lookLocked lookHunting itemAt keeps live confirmed
+  one-frame = refl

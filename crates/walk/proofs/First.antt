@@ -8,26 +8,27 @@ use native.Mathlib.Omega.{arith}
 use native.Mathlib.Nat.{zero-add, suc-add, mul-le-mul-right, le-of-mul-le-mul-right}
 use native.Mathlib.Decide.{decLe}
 use borrow.Author.Tests.{le-leb, lt-leb}
-use Rattle.walk.specs.Walk.{Judged, Fair, State, Handed, frame, differ, confirmed, itemAt, keeps, items, locked, hunting, begin}
-use Rattle.walk.specs.Demand3.{Ends, placeOf, since, frames}
-use Rattle.walk.proofs.Rules.{and-left, stands-keeps, stands-item, place-item}
+use Rattle.walk.specs.Walk.{Judged, Fair, State, Item, frameAt, differ, confirmed, itemAt, keeps, items, locked, hunting, begin}
+use Rattle.walk.specs.ItemValues.{placeOf}
+use Rattle.walk.specs.AnyJudging.{Ends, since, frames}
+use Rattle.walk.proofs.ByRules.{confirmed-stands, stands-keeps, stands-item, place-item}
 use Rattle.walk.proofs.Laws.{items-short, items-kept, items-missed, items-last, items-confirmed, items-passed}
 
--- what stands before c is not among the items since c
-since-before : (c : ℕ) (x : Handed) (l : List Handed) → placeOf x < c → since c (x ∷ l) ≡ since c l
+-- what stands earlier than c is not among the items since c
+since-earlier : (c : ℕ) (x : Item) (l : List Item) → placeOf x < c → since c (x ∷ l) ≡ since c l
 unfolding since
-since-before c x l h = rw (lt-leb c (placeOf x) h)
+since-earlier c x l h = rw (lt-leb c (placeOf x) h)
 
 since-frames : (R : Judged) (n c p : ℕ) → c ≤ p → since c (frames R p n) ≡ frames R p n
-unfolding since frames placeOf
+unfolding since frames
 since-frames R zero c p h = refl
-since-frames R (suc n) c p h = rw (le-leb c p h) (ap (λ (l : List Handed). frame p ∷ l) (since-frames R n c (p + R .period) (omega arith)))
+since-frames R (suc n) c p h = rw (le-leb c p h) (ap (λ (l : List Item). frameAt R p ∷ l) (since-frames R n c (p + R .period) (omega arith)))
 
 since-later : (R : Judged) → Fair R → (d n c p : ℕ) → c ≡ p + d * R .period → since c (frames R p (d + n)) ≡ frames R c n
-unfolding frames placeOf
+unfolding frames
 since-later R fair zero n c p e = let q : c ≡ p = omega arith in rw (q, zero-add) (since-frames R n p p (omega arith))
 since-later R fair (suc d) n c p e =
-    rw suc-add (since-before c (frame p) (frames R (p + R .period) (d + n)) (omega arith) ∙ since-later R fair d n c (p + R .period) (omega arith))
+    rw suc-add (since-earlier c (frameAt R p) (frames R (p + R .period) (d + n)) (omega arith) ∙ since-later R fair d n c (p + R .period) (omega arith))
 
 confirmed-is : (R : Judged) (p : ℕ) → R .stands p ≡ true → p + R .period + R .period ≤ R .len → R .stands (p + R .period) ≡ true → R .sync (p + R .period) ≡ not (R .sync p) → confirmed R p ≡ true
 unfolding confirmed
@@ -37,18 +38,14 @@ confirmed-is R p e h e' s = rw (e, le-leb (p + R .period + R .period) (R .len) h
     go true = refl
     go false = refl
 
-confirmed-stands : (R : Judged) (p : ℕ) → confirmed R p ≡ true → R .stands p ≡ true
-unfolding confirmed
-confirmed-stands R p e = and-left (R .stands p) _ e
-
 -- a run of intact frames to the record's end, the walk in lock on it
 on-the-grid : (R : Judged) → Fair R → (d p k : ℕ) → k < R .limit → p + d * R .period ≡ R .len → ((j : ℕ) → j < d → R .stands (p + j * R .period) ≡ true) → items R (locked p k) ≡ frames R p d
 unfolding frames
 on-the-grid R fair zero p k b e st = items-short R (fair .positive) (locked p k) (omega arith)
 on-the-grid R fair (suc d) p k b e st =
-    items-kept R fair p k (omega arith) b (stands-keeps R p here)
-    ∙ ap (λ (x : Handed). x ∷ items R (locked (p + R .period) 0)) (stands-item R p here)
-    ∙ ap (λ (l : List Handed). frame p ∷ l)
+    items-kept R (fair .positive) p k (omega arith) b (stands-keeps R p here)
+    ∙ ap (λ (x : Item). x ∷ items R (locked (p + R .period) 0)) (stands-item R p here)
+    ∙ ap (λ (l : List Item). frameAt R p ∷ l)
     (on-the-grid R fair d (p + R .period) 0 (omega arith) (omega arith) (λ j h. rw (let q : p + R .period + j * R .period ≡ p + suc j * R .period = omega arith in q) (st (suc j) (omega arith))))
   where
     here : R .stands p ≡ true
@@ -105,7 +102,6 @@ module _ (R : Judged) (fair : Fair R) (a m r : ℕ) (E : Ends R a (m + r)) (limi
   Hunts f = (p k : ℕ) → promised < p + f → p ≤ promised → Good (hunting p k)
 
   locks : (f : ℕ) → Locks f → Hunts f → Locks (suc f)
-  unfolding placeOf
   locks f L H p k h b q = go (keeps R p) refl (decLe (p + R .period) a)
     where
       km : k * R .period ≤ m * R .period
@@ -120,22 +116,21 @@ module _ (R : Judged) (fair : Fair R) (a m r : ℕ) (E : Ends R a (m + r)) (limi
       lose : keeps R p ≡ false → Dec (k < m) → Good (locked p k)
       lose e (yes l) =
           let h' = miss e in
-          rw (items-missed R fair p k room (omega arith) e)
-          (since-before promised (itemAt R p) _ (omega (arith, km, place-item R p)) ∙ L (p + R .period) (k + 1) (omega (arith, km)) (omega arith) (omega arith))
+          rw (items-missed R (fair .positive) p k room (omega arith) e)
+          (since-earlier promised (itemAt R p) _ (omega (arith, km, place-item R p)) ∙ L (p + R .period) (k + 1) (omega (arith, km)) (omega arith) (omega arith))
       lose e (no l) =
           let h' = miss e in
-          rw (items-last R fair p k room (omega arith) e)
-          (since-before promised (itemAt R p) _ (omega (arith, km, place-item R p)) ∙ H (p + 1) (k + 1) (omega (arith, km)) (omega (arith, km)))
+          rw (items-last R (fair .positive) p k room (omega arith) e)
+          (since-earlier promised (itemAt R p) _ (omega (arith, km, place-item R p)) ∙ H (p + 1) (k + 1) (omega (arith, km)) (omega (arith, km)))
 
       go : (t : Bool) → keeps R p ≡ t → Dec (p + R .period ≤ a) → Good (locked p k)
       go true e (yes z) =
-          rw (items-kept R fair p k room (omega arith) e)
-          (since-before promised (itemAt R p) _ (omega (arith, place-item R p)) ∙ L (p + R .period) 0 (omega arith) (omega arith) (omega arith))
+          rw (items-kept R (fair .positive) p k room (omega arith) e)
+          (since-earlier promised (itemAt R p) _ (omega (arith, place-item R p)) ∙ L (p + R .period) 0 (omega arith) (omega arith) (omega arith))
       go true e (no z) = let (i, l, w) = in-the-zone p k (omega arith) room e q in aligned i k p (omega arith) b w
       go false e d = lose e (decLe (suc k) m)
 
   hunts : (f : ℕ) → Locks f → Hunts f → Hunts (suc f)
-  unfolding placeOf
   hunts f L H p k h q = go (confirmed R p) refl (decLe (p + R .period) a)
     where
       room : p + R .period ≤ R .len
@@ -146,14 +141,14 @@ module _ (R : Judged) (fair : Fair R) (a m r : ℕ) (E : Ends R a (m + r)) (limi
 
       go : (t : Bool) → confirmed R p ≡ t → Dec (p + R .period ≤ a) → Good (hunting p k)
       go true e (yes z) =
-          rw (items-confirmed R fair p k room e)
-          (since-before promised (frame p) _ (omega arith) ∙ L (p + R .period) 0 (omega arith) (omega arith) (omega arith))
+          rw (items-confirmed R (fair .positive) p k room e)
+          (since-earlier promised (frameAt R p) _ (omega arith) ∙ L (p + R .period) 0 (omega arith) (omega arith) (omega arith))
       go true e (no z) =
           let st = confirmed-stands R p e in
           let (i, l, w) = in-the-zone p m (omega arith) room (stands-keeps R p st) q in
-          rw (items-confirmed R fair p k room e, ← stands-item R p st, ← items-kept R fair p 0 room (omega arith) (stands-keeps R p st))
+          rw (items-confirmed R (fair .positive) p k room e, ← stands-item R p st, ← items-kept R (fair .positive) p 0 room (omega arith) (stands-keeps R p st))
           (aligned i 0 p l (omega arith) w)
-      go false e d = rw (items-passed R fair p k room e) (H (p + 1) k (omega arith) (omega (arith, pass e)))
+      go false e d = rw (items-passed R (fair .positive) p k room e) (H (p + 1) k (omega arith) (omega (arith, pass e)))
 
   both : (f : ℕ) → Locks f × Hunts f
   both zero = ((λ p k h b q. absurd (omega (arith, mul-le-mul-right (R .period) b))), (λ p k h q. absurd (omega arith)))

@@ -7,12 +7,12 @@ use mathlib.Core.List.{[], _∷_}
 use mathlib.Core.Option.{none, some}
 use native.Mathlib.Omega.{arith}
 use borrow.Author.Tests.{le-leb, lt-leb, lt-ltb, le-ltb}
-use Rattle.walk.specs.Walk.{Judged, Fair, State, Look, frame, done, fits, confirmed, live, itemAt, keeps, lookLocked, lookHunting, look, giving, items, stepBy, stepOf, locked, hunting}
+use Rattle.walk.specs.Walk.{Judged, State, Look, Done, fits, confirmed, live, frameAt, itemAt, keeps, lookLocked, lookHunting, look, giving, items, stepBy, stepOf, locked, hunting}
 use Rattle.walk.proofs.Looks.{items-dead, items-live, step-dead, step-live}
 
 module _ (R : Judged) (positive : 0 < R .period) where
   -- where the walk is done
-  no-room : (s : State) → R .len < s .place + R .period → live R s ≡ false
+  pub no-room : (s : State) → R .len < s .place + R .period → live R s ≡ false
   unfolding live
   no-room s h = rw (lt-leb (s .place + R .period) (R .len) h)
 
@@ -23,19 +23,18 @@ module _ (R : Judged) (positive : 0 < R .period) where
   pub items-short : (s : State) → R .len < s .place + R .period → items R s ≡ []
   items-short s h = items-dead R positive s (no-room s h)
 
-  pub step-short : (s : State) → R .len < s .place + R .period → stepOf R s ≡ record { item = done (s .place); walk = s }
+  pub step-short : (s : State) → R .len < s .place + R .period → stepOf R s ≡ record { item = Done (s .place); walk = s }
   step-short s h = step-dead R positive s (no-room s h)
 
-  pub step-spent : (p k : ℕ) → R .limit ≤ k → stepOf R (locked p k) ≡ record { item = done p; walk = locked p k }
+  pub step-spent : (p k : ℕ) → R .limit ≤ k → stepOf R (locked p k) ≡ record { item = Done p; walk = locked p k }
   step-spent p k h = step-dead R positive (locked p k) (spent p k h)
 
-module _ (R : Judged) (fair : Fair R) where
   -- where it looks: from what a look is, to the items and to the step
   items-look : (s : State) → live R s ≡ true → (l : Look) → look R s ≡ l → items R s ≡ giving (l .gives) (items R (l .goes))
-  items-look s e l q = items-live R (fair .positive) s e ∙ rw q
+  items-look s e l q = items-live R positive s e ∙ rw q
 
   step-look : (s : State) → live R s ≡ true → (l : Look) → look R s ≡ l → stepOf R s ≡ stepBy (l .gives) (l .goes) (stepOf R (l .goes))
-  step-look s e l q = step-live R (fair .positive) s e ∙ rw q
+  step-look s e l q = step-live R positive s e ∙ rw q
 
   module _ (p k : ℕ) (room : p + R .period ≤ R .len) where
     live-locked : k < R .limit → live R (locked p k) ≡ true
@@ -58,7 +57,7 @@ module _ (R : Judged) (fair : Fair R) where
     unfolding look lookLocked
     look-last e b = rw (e, le-ltb (k + 1) (R .limit) b)
 
-    look-confirmed : confirmed R p ≡ true → look R (hunting p k) ≡ record { gives = some (frame p); goes = locked (p + R .period) 0 }
+    look-confirmed : confirmed R p ≡ true → look R (hunting p k) ≡ record { gives = some (frameAt R p); goes = locked (p + R .period) 0 }
     unfolding look lookHunting
     look-confirmed e = rw e
 
@@ -78,7 +77,7 @@ module _ (R : Judged) (fair : Fair R) where
     unfolding giving
     items-last b e = items-look (locked p k) (live-locked (omega arith)) _ (look-last e (omega arith))
 
-    pub items-confirmed : confirmed R p ≡ true → items R (hunting p k) ≡ frame p ∷ items R (locked (p + R .period) 0)
+    pub items-confirmed : confirmed R p ≡ true → items R (hunting p k) ≡ frameAt R p ∷ items R (locked (p + R .period) 0)
     unfolding giving
     items-confirmed e = items-look (hunting p k) live-hunting _ (look-confirmed e)
 
@@ -98,7 +97,7 @@ module _ (R : Judged) (fair : Fair R) where
     unfolding stepBy
     step-last b e = step-look (locked p k) (live-locked (omega arith)) _ (look-last e (omega arith))
 
-    pub step-confirmed : confirmed R p ≡ true → stepOf R (hunting p k) ≡ record { item = frame p; walk = locked (p + R .period) 0 }
+    pub step-confirmed : confirmed R p ≡ true → stepOf R (hunting p k) ≡ record { item = frameAt R p; walk = locked (p + R .period) 0 }
     unfolding stepBy
     step-confirmed e = step-look (hunting p k) live-hunting _ (look-confirmed e)
 

@@ -1,3 +1,4 @@
+pub mod ByRules
 pub mod Ending
 pub mod Examples
 pub mod First
@@ -5,11 +6,8 @@ pub mod Laws
 pub mod Looks
 pub mod Marks
 pub mod Misses
+pub mod OverBytes
 pub mod Real
-pub mod Records
-pub mod Rules
 pub mod Second
-pub mod Steps
-pub mod Tallies
-pub mod Three
-pub mod Values
+pub mod Stepping
+pub mod Truth

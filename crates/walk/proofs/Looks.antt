@@ -6,8 +6,8 @@ use mathlib.Core.Bool.{Bool, true, false}
 use mathlib.Core.List.{List, [], _∷_}
 use native.Mathlib.Omega.{arith}
 use lib.ListN.{length}
-use Rattle.walk.specs.Walk.{Judged, State, done, live, look, left, looksIn, looks, giving, itemsOf, items, restIn, rest, stepBy, stepIn, stepOf}
-use Rattle.walk.proofs.Rules.{live-fits, further}
+use Rattle.walk.specs.Walk.{Judged, State, Done, live, look, left, looksIn, looks, giving, itemsOf, items, restIn, rest, stepBy, stepIn, stepOf}
+use Rattle.walk.proofs.ByRules.{live-fits, further}
 
 module _ (R : Judged) (positive : 0 < R .period) where
   -- a look takes at least one of the places that are left
@@ -72,7 +72,7 @@ module _ (R : Judged) (positive : 0 < R .period) where
   rest-live s e = ap (restIn R s) (looks-live s e)
 
   -- and of the step
-  pub step-dead : (s : State) → live R s ≡ false → stepOf R s ≡ record { item = done (s .place); walk = s }
+  pub step-dead : (s : State) → live R s ≡ false → stepOf R s ≡ record { item = Done (s .place); walk = s }
   unfolding stepOf stepIn
   step-dead s e = ap (stepIn R s) (looks-dead s e)
 

@@ -1,4 +1,4 @@
--- An accepted period begins with a sync word, so a place that lacks the first two bytes of both is not accepted, and not confirmed.
+-- An accepted period begins with a sync word, so a place that lacks the first two bytes of both is not accepted.
 -- Assumes nothing.
 use mathlib.Core.Bool.{Bool, true, false}
 use mathlib.Core.List.{List}
@@ -12,9 +12,7 @@ use Rattle.frame.specs.Frame.{fsyncOf}
 use Rattle.frame.specs.Rules.{refusalOf}
 use Rattle.frame.proofs.Accepting.{acceptable}
 use Rattle.frame.proofs.Places.{OneFsync}
-use Rattle.walk.specs.Walk.{confirmed}
-use Rattle.walk.specs.Records.{part, judged}
-use Rattle.walk.proofs.Steps.{confirmed-stands}
+use Rattle.walk.specs.Records.{part}
 
 -- the bytes a, b and c are a sync word, and r is true where a and b begin one
 module _ (a b c : ℕ) (r : Bool) (low : (a < 256) × (b < 256) × (c < 256)) (one : a ≡ 0x07 → b ≡ 0x3A → r ≡ true) (other : a ≡ 0xF8 → b ≡ 0xC5 → r ≡ true) where
@@ -39,9 +37,5 @@ module _ (bytes : List ℕ) (p : ℕ) where
           let f = part bytes p in
           begins _ _ _ r (small (p + 1), small (p + 2), small (p + 3)) one other (subst OneFsync fsync-is (acceptable f e .synced))
 
-      pub unmarked : r ≡ false → confirmed (judged 3 bytes) p ≡ false
-      unmarked m = go (confirmed (judged 3 bytes) p) refl
-        where
-          go : (b : Bool) → confirmed (judged 3 bytes) p ≡ b → b ≡ false
-          go false e = refl
-          go true e = sym (stands-marked (confirmed-stands bytes p e)) ∙ m
+      pub unmarked : r ≡ false → refusalOf (part bytes p) ≡ 0 → ⊥
+      unmarked m e = let z : _≡_ {A = ℕ} 0 1 = cc (stands-marked e) in omega arith

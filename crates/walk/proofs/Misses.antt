@@ -1,29 +1,18 @@
 -- A step never takes the misses past the limit.
 -- Assumes nothing.
 use Prim.Native.Nat.{ℕ, _≤_, _<_}
-use mathlib.Core.Path.{_≡_, refl}
-use mathlib.Core.Bool.{Bool, true, false, not, _&&_}
+use mathlib.Core.Path.{_≡_}
+use mathlib.Core.Bool.{true, false}
 use mathlib.Core.Option.{Option, none, some}
 use native.Mathlib.Omega.{arith}
-use lib.Dec.{leb}
-use borrow.Author.Tests.{leb-false}
-use Rattle.walk.specs.Walk.{Judged, State, Handed, fits, live, look, locked, stepBy, stepOf}
-use Rattle.walk.proofs.Rules.{by-rules}
+use Rattle.walk.specs.Walk.{Judged, State, Item, live, look, stepBy, stepOf}
+use Rattle.walk.proofs.ByRules.{live-few, by-rules}
 use Rattle.walk.proofs.Looks.{step-dead, step-live, walk-ind}
-
-not-spent : (a b : Bool) → (a && not b) ≡ true → b ≡ false
-not-spent true false e = refl
-not-spent true true e = cc
-not-spent false b e = cc
-
-live-few : (R : Judged) (p k : ℕ) → live R (locked p k) ≡ true → k < R .limit
-unfolding live
-live-few R p k e = leb-false (R .limit) k (not-spent (fits R p) (leb (R .limit) k) e)
 
 module _ (R : Judged) (positive : 0 < R .period) (m : ℕ) (most : R .limit ≤ m) where
   goes-within : (s : State) → live R s ≡ true → s .misses ≤ m → look R s .goes .misses ≤ m
   goes-within = by-rules R (λ s l. live R s ≡ true → s .misses ≤ m → l .goes .misses ≤ m)
-      (λ p k e v h. omega arith) (λ p k e b v h. omega arith) (λ p k e v h. omega (arith, live-few R p k v)) (λ p k v h. omega arith) (λ p k v h. h)
+      (λ p k e v h. omega arith) (λ p k e b v h. omega arith) (λ p k e v h. omega (arith, live-few R p k v)) (λ p k e v h. omega arith) (λ p k v h. h)
 
   pub misses-within : (s : State) → s .misses ≤ m → stepOf R s .walk .misses ≤ m
   unfolding stepBy
@@ -32,7 +21,7 @@ module _ (R : Judged) (positive : 0 < R .period) (m : ℕ) (most : R .limit ≤ 
       dead : (s : State) → live R s ≡ false → s .misses ≤ m → stepOf R s .walk .misses ≤ m
       dead s e h = rw (step-dead R positive s e) h
 
-      at : (s : State) (g : Option Handed) → look R s .goes .misses ≤ m → stepOf R (look R s .goes) .walk .misses ≤ m → stepBy g (look R s .goes) (stepOf R (look R s .goes)) .walk .misses ≤ m
+      at : (s : State) (g : Option Item) → look R s .goes .misses ≤ m → stepOf R (look R s .goes) .walk .misses ≤ m → stepBy g (look R s .goes) (stepOf R (look R s .goes)) .walk .misses ≤ m
       at s none a b = b
       at s (some x) a b = a
 

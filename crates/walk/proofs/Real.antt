@@ -3,22 +3,23 @@
 use Prim.Native.Nat.{ℕ, zero, suc, _+_, _-_, _*_, _/_, _%_, _≤_, _<_}
 use mathlib.Core.Path.{_≡_, refl, sym, ap, subst, _∙_}
 use mathlib.Core.Bool.{Bool, true, false, not, _&&_, _||_}
-use mathlib.Core.List.{List, [], _∷_, _++_}
+use mathlib.Core.List.{List, [], _∷_, _++_, map}
 use native.Mathlib.Omega.{arith}
 use lib.Dec.{lit<, eqb, ltb}
 use lib.ListN.{length, getD, replicate, length-append, length-replicate, List·getD-append}
 use lib.Seq.{take-at, drop-append-add}
-use borrow.Author.Tests.{eqb-true, ltb-true, ltb-false, not-true}
+use borrow.Author.Tests.{ltb-true, ltb-false, not-true}
 use Rattle.sum.specs.Sum.{sumOf, bit}
-use Rattle.frame.specs.Frame.{isFsync1, errOf, fsyncOf, fctOf, ficfOf, nstOf, midOf, flOf, ficlBy, streamsTo, stlTotal, headerSumOf}
+use Rattle.frame.specs.Frame.{errOf, fsyncOf, fctOf, ficfOf, nstOf, midOf, flOf, ficlBy, streamsTo, stlTotal, headerSumOf}
 use Rattle.frame.specs.Rules.{someStlAbove, refusalOf}
 use Rattle.frame.specs.Writing.{Bytes}
-use Rattle.walk.specs.Walk.{keeps, items, begin}
-use Rattle.walk.specs.Demand3.{Ends, since, frames}
-use Rattle.walk.specs.Records.{part, judged}
-use Rattle.walk.proofs.Rules.{and-left, and-right}
-use Rattle.walk.proofs.Records.{three}
-use Rattle.walk.proofs.Three.{third-and-later}
+use Rattle.frame.proofs.Accepting.{accepted, acceptable}
+use Rattle.frame.specs.Answers.{headerFor}
+use Rattle.walk.specs.Walk.{begin}
+use Rattle.walk.specs.Records.{part, callsAt}
+use Rattle.walk.specs.Demand3.{EndsIn, outOf, outSince, framesOut, doneOut}
+use Rattle.walk.proofs.ByRules.{and-left, and-right}
+use Rattle.walk.proofs.OverBytes.{demand-3-first}
 use Rattle.walk.proofs.Marks.{byte-is, stands-marked}
 
 -- THE RECORD
@@ -57,8 +58,8 @@ unfolding plain refusalOf sumOf bit errOf fsyncOf fctOf ficfOf nstOf midOf flOf 
 plain-accepted true = refl
 plain-accepted false = refl
 
-plain-word : (b : Bool) → isFsync1 (plain b) ≡ b
-unfolding plain isFsync1 fsyncOf
+plain-word : (b : Bool) → headerFor (plain b) .fsync1 ≡ b
+unfolding plain headerFor fsyncOf
 plain-word true = refl
 plain-word false = refl
 
@@ -155,25 +156,25 @@ module _ (junk : List ℕ) (d : Damaged junk) (b : Bool) (n : ℕ) where
           (i, h, omega arith)
 
   -- WHAT DEMAND 3 SUPPOSES IS MET
-  pub real-ends : Ends (judged 3 (junk ++ inTurn b n)) (length junk) n
-  unfolding judged keeps
+  pub real-ends : EndsIn (junk ++ inTurn b n) (length junk) n
   real-ends =
       record {
         whole = whole;
-        intact = λ i h. rw (stands-there i h, plain-accepted (nth b i));
+        intact = λ i h. rw (stands-there i h) (acceptable (plain (nth b i)) (plain-accepted (nth b i)));
         alternating = λ i h. rw (stands-there (suc i) h, stands-there i (omega arith), plain-word (nth (not b) i), plain-word (nth b i)) (turns b i);
-        alone = λ q z room e.
+        alone = λ q z room ok.
             let small = bytes-append junk (inTurn b n) (d .small) (inTurn-small b n) in
-            start-found q z room (stands-marked bytes q small (starts (getD bytes (q + 1) 0)) (λ x y. rw x) (λ x y. rw x) (eqb-true (refusalOf (part bytes q)) 0 e));
+            start-found q z room (stands-marked bytes q small (starts (getD bytes (q + 1) 0)) (λ x y. rw x) (λ x y. rw x) (accepted (part bytes q) ok));
       }
 
   -- and so of four or more of these frames the third and every later one are handed out
-  pub real-handed-out : 4 ≤ n → since (length junk + 2 * 6144) (items (judged 3 (junk ++ inTurn b n)) begin) ≡ frames (judged 3 (junk ++ inTurn b n)) (length junk + 2 * 6144) (n - 2)
-  real-handed-out h = third-and-later (judged 3 bytes) (three bytes) (length junk) n real-ends h
+  pub real-handed-out : 4 ≤ n → (calls : ℕ) → length (junk ++ inTurn b n) ≤ calls →
+      (k : ℕ) × (0 < k) × (outSince (length junk + 2 * 6144) (map outOf (callsAt 3 (junk ++ inTurn b n) calls begin)) ≡ framesOut (junk ++ inTurn b n) (length junk + 2 * 6144) (n - 2) ++ replicate k (doneOut (length (junk ++ inTurn b n))))
+  real-handed-out h = demand-3-first bytes (length junk) n real-ends h
 
 -- there are such damaged bytes, as many as one likes
 pub padding-damaged : (k : ℕ) → Damaged (replicate k 0x55)
 padding-damaged k = record { small = λ j. calm-at (replicate k 0x55) (calm-padding k) j .0; quiet = λ j h. calm-at (replicate k 0x55) (calm-padding k) j .1 }
 
-pub real-ends-at : (k : ℕ) (b : Bool) (n : ℕ) → Ends (judged 3 (replicate k 0x55 ++ inTurn b n)) k n
-real-ends-at k b n = subst (λ (a : ℕ). Ends (judged 3 (replicate k 0x55 ++ inTurn b n)) a n) (length-replicate k 0x55) (real-ends (replicate k 0x55) (padding-damaged k) b n)
+pub real-ends-at : (k : ℕ) (b : Bool) (n : ℕ) → EndsIn (replicate k 0x55 ++ inTurn b n) k n
+real-ends-at k b n = subst (λ (a : ℕ). EndsIn (replicate k 0x55 ++ inTurn b n) a n) (length-replicate k 0x55) (real-ends (replicate k 0x55) (padding-damaged k) b n)

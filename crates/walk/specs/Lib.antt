@@ -1,5 +1,7 @@
 pub mod Walk
-pub mod Demand3
+pub mod ItemValues
+pub mod AnyJudging
 pub mod Records
-pub mod Shown
-pub mod Tallies
+pub mod Truth
+pub mod Demand3
+pub mod Inner

@@ -1,9 +1,8 @@
 -- The walk over a record of bytes: its places are judged by the reading, and its items hold what the reading gives there.
 -- Assumes nothing.
 use mathlib.Core.Bool.{Bool}
-use mathlib.Core.List.{List, []}
-use mathlib.Core.Path.{_≡_}
-use Prim.Native.Nat.{ℕ, _+_, _≤_, _<_}
+use mathlib.Core.List.{List, [], _∷_}
+use Prim.Native.Nat.{ℕ, zero, suc}
 use lib.Dec.{eqb}
 use lib.ListN.{length, take, drop}
 use Rattle.frame.specs.declared.Stream.{Stream}
@@ -14,7 +13,7 @@ use Rattle.walk.specs.declared.Item.{Item}
 use Rattle.walk.specs.declared.Item.the-variants.{Frame, Lost, Done}
 use Rattle.walk.specs.declared.State.{State}
 use Rattle.walk.specs.declared.Step.{Step}
-use Rattle.walk.specs.Walk.{Judged, Handed, frame, lost, done, stepOf, hunting}
+use Rattle.walk.specs.Walk.{Judged, stepOf}
 
 -- "the reading gets that part of the record itself"
 abbrev pub part : List ℕ → ℕ → List ℕ
@@ -24,7 +23,7 @@ part bytes p = take 6144 (drop p bytes)
 abbrev pub fsync1At : List ℕ → ℕ → Bool
 fsync1At bytes p = isFsync1 (part bytes p)
 
--- a place stands if the 6,144 bytes from it are accepted by the reading
+-- a place stands if the 6,144 bytes from it are accepted by the reading; its header and refusal number are the reading's
 unfoldable pub judged : ℕ → List ℕ → Judged
 judged limit bytes =
     record {
@@ -33,43 +32,29 @@ judged limit bytes =
       limit = limit;
       stands = λ p. eqb (refusalOf (part bytes p)) 0;
       sync = fsync1At bytes;
+      header = λ p. headerFor (part bytes p);
       number = λ p. refusalOf (part bytes p);
     }
 
--- an item with what the reading gives at its place, and its table
-unfoldable pub shown : List ℕ → Handed → Item
-shown bytes (frame p) = Frame p (headerFor (part bytes p))
-shown bytes (lost p n) = Lost p n
-shown bytes (done p) = Done p
+-- the frame at a place, with the header that the reading gives there
+abbrev pub frameIn : List ℕ → ℕ → Item
+frameIn bytes p = Frame p (headerFor (part bytes p))
 
-unfoldable pub tableShown : List ℕ → Handed → List Stream
-tableShown bytes (frame p) = tableBy (streamsOf (part bytes p))
-tableShown bytes (lost p n) = tableBy []
-tableShown bytes (done p) = tableBy []
+-- the table beside an item: that of its frame, and all zero unless it is a frame
+unfoldable pub tableOf : List ℕ → Item → List Stream
+tableOf bytes (Frame p h) = tableBy (streamsOf (part bytes p))
+tableOf bytes (Lost p n) = tableBy []
+tableOf bytes (Done p) = tableBy []
 
--- what a step hands back over a record: the item as shown, its table, the advanced walk
-unfoldable pub stepShown : List ℕ → Handed → State → Step
-stepShown bytes x s = record { item = shown bytes x; table = tableShown bytes x; walk = s }
+-- what a step hands back: the item, its table, the advanced walk
+unfoldable pub stepWith : List ℕ → Item → State → Step
+stepWith bytes x s = record { item = x; table = tableOf bytes x; walk = s }
 
--- the step, with three misses as its limit
-unfoldable pub stepAt : List ℕ → State → Step
-stepAt bytes s = stepShown bytes (stepOf (judged 3 bytes) s .item) (stepOf (judged 3 bytes) s .walk)
+-- the step over a record, with a limit of misses
+unfoldable pub stepAt : ℕ → List ℕ → State → Step
+stepAt limit bytes s = stepWith bytes (stepOf (judged limit bytes) s .item) (stepOf (judged limit bytes) s .walk)
 
--- the hunt may go on from a to b: from either it hands back the same
-pub record Onward (bytes : List ℕ) (a b : ℕ) : Type 0 where
-  pub ahead : a ≤ b
-  pub same : (k : ℕ) → stepAt bytes (hunting a k) ≡ stepAt bytes (hunting b k)
-
--- the steps that hand out no frame, as the code puts them together
-unfoldable pub doneAt : ℕ → ℕ → Bool → Step
-doneAt p k lock = record { item = Done p; table = tableBy []; walk = record { place = p; misses = k; lock = lock } }
-
-unfoldable pub lostAt : ℕ → ℕ → State → Step
-lostAt p n s = record { item = Lost p n; table = tableBy []; walk = s }
-
--- in lock at p after k misses, with fewer than three, the place is refused with n
-pub record Missed (bytes : List ℕ) (p k n : ℕ) : Type 0 where
-  pub room : p + 6144 ≤ length bytes
-  pub few : k < 3
-  pub number : n ≡ refusalOf (part bytes p)
-  pub refused : n ≡ 0 → ⊥
+-- what n calls of the step hand back, one after another: each goes on from the walk that the call before it handed back
+unfoldable pub callsAt : ℕ → List ℕ → ℕ → State → List Step
+callsAt limit bytes zero s = []
+callsAt limit bytes (suc n) s = stepAt limit bytes s ∷ callsAt limit bytes n (stepAt limit bytes s .walk)

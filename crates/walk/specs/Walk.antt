@@ -6,15 +6,19 @@ use mathlib.Core.List.{List, [], _∷_}
 use mathlib.Core.Option.{Option, none, some}
 use lib.Dec.{leb, ltb}
 use Rattle.octets.specs.Choice.{pick}
+use Rattle.frame.specs.declared.Header.{Header}
+pub use Rattle.walk.specs.declared.Item.{Item}
+pub use Rattle.walk.specs.declared.Item.the-variants.{Frame, Lost, Done}
 pub use Rattle.walk.specs.declared.State.{State}
 
--- What the walk goes by. `stands`, `sync` and `number` are asked only of places whose `period` bytes exist.
+-- What the walk goes by: whether a place stands, its sync word, the header that its reading gives, its refusal number. They are asked only of places whose `period` bytes exist.
 pub record Judged : Type 0 where
   pub len : ℕ
   pub period : ℕ
   pub limit : ℕ
   pub stands : ℕ → Bool
   pub sync : ℕ → Bool
+  pub header : ℕ → Header
   pub number : ℕ → ℕ
 
 -- what the walk's laws suppose of it
@@ -22,20 +26,14 @@ pub record Fair (R : Judged) : Type 0 where
   pub positive : 0 < R .period
   pub patient : 0 < R .limit
 
--- What the walk hands out, by its place: a frame, a lost mark with its refusal number, or done.
-pub data Handed : Type 0 where
-  frame : ℕ → Handed
-  lost : ℕ → ℕ → Handed
-  done : ℕ → Handed
-
 -- What comes of looking at one place: what is handed out, if anything, and where the walk goes.
 pub record Look : Type 0 where
-  pub gives : Option Handed
+  pub gives : Option Item
   pub goes : State
 
 -- What a step hands back: the item and the advanced walk.
 pub record Stepped : Type 0 where
-  pub item : Handed
+  pub item : Item
   pub walk : State
 
 abbrev pub differ : Bool → Bool → Bool
@@ -65,9 +63,13 @@ confirmed R p = R .stands p && (fits R (p + R .period) && (R .stands (p + R .per
 unfoldable pub live : Judged → State → Bool
 live R s = fits R (s .place) && not (s .lock && leb (R .limit) (s .misses))
 
+-- the frame that stands at p
+abbrev pub frameAt : Judged → ℕ → Item
+frameAt R p = Frame p (R .header p)
+
 -- what a place gives the walk in lock
-unfoldable pub itemAt : Judged → ℕ → Handed
-itemAt R p = pick (R .stands p) (frame p) (lost p (R .number p))
+unfoldable pub itemAt : Judged → ℕ → Item
+itemAt R p = pick (R .stands p) (frameAt R p) (Lost p (R .number p))
 
 -- whether it keeps the lock, so that the misses are cleared
 unfoldable pub keeps : Judged → ℕ → Bool
@@ -85,7 +87,7 @@ lookLocked R p k =
 unfoldable pub lookHunting : Judged → ℕ → ℕ → Look
 lookHunting R p k =
     pick (confirmed R p)
-    (record { gives = some (frame p); goes = locked (p + R .period) 0 })
+    (record { gives = some (frameAt R p); goes = locked (p + R .period) 0 })
     (record { gives = none; goes = hunting (p + 1) k })
 
 unfoldable pub look : Judged → State → Look
@@ -107,16 +109,16 @@ unfoldable pub looks : Judged → State → List State
 looks R s = looksIn R (left R s) s
 
 -- what looks hand out
-unfoldable pub giving : Option Handed → List Handed → List Handed
+unfoldable pub giving : Option Item → List Item → List Item
 giving none l = l
 giving (some x) l = x ∷ l
 
-unfoldable pub itemsOf : Judged → List State → List Handed
+unfoldable pub itemsOf : Judged → List State → List Item
 itemsOf R [] = []
 itemsOf R (s ∷ l) = giving (look R s .gives) (itemsOf R l)
 
 -- what the walk from s on hands out, but for done
-unfoldable pub items : Judged → State → List Handed
+unfoldable pub items : Judged → State → List Item
 items R s = itemsOf R (looks R s)
 
 -- the state in which the walk from s on is done
@@ -128,18 +130,18 @@ unfoldable pub rest : Judged → State → State
 rest R s = restIn R s (looks R s)
 
 -- one step: on to the first look that hands out an item, and done where there is none
-unfoldable pub stepBy : Option Handed → State → Stepped → Stepped
+unfoldable pub stepBy : Option Item → State → Stepped → Stepped
 stepBy none s later = later
 stepBy (some x) s later = record { item = x; walk = s }
 
 unfoldable pub stepIn : Judged → State → List State → Stepped
-stepIn R s [] = record { item = done (s .place); walk = s }
+stepIn R s [] = record { item = Done (s .place); walk = s }
 stepIn R s (t ∷ l) = stepBy (look R t .gives) (look R t .goes) (stepIn R (look R t .goes) l)
 
 unfoldable pub stepOf : Judged → State → Stepped
 stepOf R s = stepIn R s (looks R s)
 
 -- what n calls of the step hand back, one after another
-unfoldable pub calls : Judged → ℕ → State → List Handed
+unfoldable pub calls : Judged → ℕ → State → List Item
 calls R zero s = []
 calls R (suc n) s = stepOf R s .item ∷ calls R n (stepOf R s .walk)

@@ -1,13 +1,14 @@
 // Walking a record: the state, and a step from one item to the next.
 ghost use mathlib.Core.Bool.{false};
 ghost use mathlib.Core.Path.{_≡_};
-ghost use Prim.Native.Nat.{_+_, _≤_, _<_};
+ghost use mathlib.Core.List.{List};
+ghost use Prim.Native.Nat.{ℕ, _+_, _≤_};
 ghost use lib.ListN.{length};
 ghost use Rattle.frame.specs.Rules.{refusalOf};
 ghost use Rattle.frame.specs.Answers.{Reads};
-ghost use Rattle.walk.specs.Walk.{frame, confirmed, locked, hunting};
-ghost use Rattle.walk.specs.Records.{part, judged, fsync1At, stepShown, stepAt, Onward, doneAt, lostAt, Missed};
-ghost use Rattle.walk.specs.Tallies.{tallyWith, tallyOf};
+ghost use Rattle.walk.specs.Walk.{Lost, Done, confirmed, locked, hunting};
+ghost use Rattle.walk.specs.Records.{part, judged, fsync1At, frameIn, stepWith, stepAt};
+ghost use Rattle.walk.specs.Inner.{NoneStands, Missed};
 use frame::Answer;
 use frame::Header;
 use frame::Reading;
@@ -62,7 +63,7 @@ fn read_at(bytes: &[u8], p: usize) -> Reading
 // Whether p stands and the place a period later stands with the other sync word.
 fn confirms(bytes: &[u8], p: usize) -> bool
     requires { ⌜ p + 6144 ≤ length (now bytes) ⌝ }
-    ensures { λ r. ⌜ r ≡ confirmed (judged 3 (now (bytes .entry))) p ⌝ }
+    ensures { λ r. ⌜ ((limit : ℕ) → r ≡ confirmed (judged limit (now (bytes .entry))) p) ⌝ }
 {
     if judge_at(bytes, p) != 0 {
         return false;
@@ -78,19 +79,33 @@ fn confirms(bytes: &[u8], p: usize) -> bool
     if fsync1_at(bytes, p) { !t } else { t }
 }
 
-// The misses after a frame handed out.
-const CLEARED: usize = 0;
+// Every state of this crate is made by one of these two.
+fn lock_at(place: usize, misses: usize) -> State
+    ensures { λ r. ⌜ r ≡ locked place misses ⌝ }
+{
+    State {
+        place,
+        misses,
+        lock: true,
+    }
+}
+
+fn hunt_at(place: usize, misses: usize) -> State
+    ensures { λ r. ⌜ r ≡ hunting place misses ⌝ }
+{
+    State {
+        place,
+        misses,
+        lock: false,
+    }
+}
 
 // The frame that stands at p, and the walk in lock a period later.
 fn frame_step(bytes: &[u8], p: usize) -> Step
     requires { ⌜ (p + 6144 ≤ length (now bytes)) × (refusalOf (part (now bytes) p) ≡ 0) ⌝ }
-    ensures { λ r. ⌜ r ≡ stepShown (now (bytes .entry)) (frame p) (locked (p + 6144) 0) ⌝ }
+    ensures { λ r. ⌜ r ≡ stepWith (now (bytes .entry)) (frameIn (now (bytes .entry)) p) (locked (p + 6144) 0) ⌝ }
 {
-    let walk = State {
-        place: p + 6144,
-        misses: CLEARED,
-        lock: true,
-    };
+    let walk = lock_at(p + 6144, 0);
     let reading = read_at(bytes, p);
     let answer = reading.answer;
     let table = reading.table;
@@ -110,7 +125,7 @@ fn frame_step(bytes: &[u8], p: usize) -> Step
 
 // A lost mark at p with its refusal number, and the walk that goes on.
 fn lost_step(p: usize, n: u8, walk: State) -> Step
-    ensures { λ r. ⌜ r ≡ lostAt p n walk ⌝ }
+    ensures { λ r. ⌜ ((bytes : List ℕ) → r ≡ stepWith bytes (Lost p n) walk) ⌝ }
 {
     Step {
         item: Item::Lost(p, n),
@@ -119,24 +134,21 @@ fn lost_step(p: usize, n: u8, walk: State) -> Step
     }
 }
 
-fn done_step(place: usize, misses: usize, lock: bool) -> Step
-    ensures { λ r. ⌜ r ≡ doneAt place misses lock ⌝ }
+fn done_step(walk: State) -> Step
+    ensures { λ r. ⌜ ((bytes : List ℕ) → r ≡ stepWith bytes (Done (walk .place)) walk) ⌝ }
 {
+    let p = walk.place;
     Step {
-        item: Item::Done(place),
+        item: Item::Done(p),
         table: reading::no_streams(),
-        walk: State {
-            place,
-            misses,
-            lock,
-        },
+        walk,
     }
 }
 
 // Whether p begins like a frame: with the first two bytes of one of the sync words, 073AB6 or F8C549.
 fn mark_at(bytes: &[u8], p: usize) -> bool
     requires { ⌜ p + 6144 ≤ length (now bytes) ⌝ }
-    ensures { λ r. ⌜ (r ≡ false → confirmed (judged 3 (now (bytes .entry))) p ≡ false) ⌝ }
+    ensures { λ r. ⌜ (r ≡ false → refusalOf (part (now (bytes .entry)) p) ≡ 0 → ⊥) ⌝ }
 {
     let a = bytes[p + 1];
     let b = bytes[p + 2];
@@ -146,7 +158,7 @@ fn mark_at(bytes: &[u8], p: usize) -> bool
 // Whether one of the 64 places from p on begins like a frame. There is no early exit, so that the loop compiles to vector compares.
 fn marked(bytes: &[u8], p: usize) -> bool
     requires { ⌜ p + 6208 ≤ length (now bytes) ⌝ }
-    ensures { λ r. ⌜ (r ≡ false → Onward (now (bytes .entry)) p (p + 64)) ⌝ }
+    ensures { λ r. ⌜ (r ≡ false → NoneStands (now (bytes .entry)) p (p + 64)) ⌝ }
 {
     let mut found = false;
     let mut i = 0;
@@ -159,7 +171,7 @@ fn marked(bytes: &[u8], p: usize) -> bool
 
 // On past the whole blocks of 64 places in which nothing begins like a frame. 6208 is 64 and a period.
 fn past_unmarked(bytes: &[u8], from: usize) -> usize
-    ensures { λ r. ⌜ Onward (now (bytes .entry)) from r ⌝ }
+    ensures { λ r. ⌜ NoneStands (now (bytes .entry)) from r ⌝ }
 {
     let n = bytes.len();
     if n < 6208 {
@@ -178,7 +190,7 @@ fn past_unmarked(bytes: &[u8], from: usize) -> usize
 // On to the first place that begins like a frame, or to the end.
 fn next_mark(bytes: &[u8], from: usize) -> usize
     requires { ⌜ 6144 ≤ length (now bytes) ⌝ }
-    ensures { λ r. ⌜ Onward (now (bytes .entry)) from r ⌝ }
+    ensures { λ r. ⌜ NoneStands (now (bytes .entry)) from r ⌝ }
 {
     let last = bytes.len() - 6144;
     let mut p = past_unmarked(bytes, from);
@@ -193,11 +205,11 @@ fn next_mark(bytes: &[u8], from: usize) -> usize
 
 // Hunting from a place on: to the first place that is confirmed, or to the end.
 fn hunt(bytes: &[u8], from: usize, misses: usize) -> Step
-    ensures { λ r. ⌜ r ≡ stepAt (now (bytes .entry)) (hunting from misses) ⌝ }
+    ensures { λ r. ⌜ ((limit : ℕ) → r ≡ stepAt limit (now (bytes .entry)) (hunting from misses)) ⌝ }
 {
     let n = bytes.len();
     if n < 6144 {
-        return done_step(from, misses, false);
+        return done_step(hunt_at(from, misses));
     }
     let mut p = next_mark(bytes, from);
     while p <= n - 6144 {
@@ -206,65 +218,57 @@ fn hunt(bytes: &[u8], from: usize, misses: usize) -> Step
         }
         p = next_mark(bytes, p + 1);
     }
-    done_step(p, misses, false)
+    done_step(hunt_at(p, misses))
 }
 
-// A lost mark at p; after the third miss the hunt begins at the next byte.
-fn missed(bytes: &[u8], p: usize, misses: usize, n: u8) -> Step
-    requires { ⌜ Missed (now bytes) p misses n ⌝ }
-    ensures { λ r. ⌜ r ≡ stepAt (now (bytes .entry)) (locked p misses) ⌝ }
+// A lost mark at p; once the misses are as many as the limit, the hunt begins at the next byte.
+fn missed(bytes: &[u8], limit: usize, p: usize, misses: usize, n: u8) -> Step
+    requires { ⌜ Missed limit (now bytes) p misses n ⌝ }
+    ensures { λ r. ⌜ r ≡ stepAt limit (now (bytes .entry)) (locked p misses) ⌝ }
 {
-    if misses + 1 < 3 {
-        return lost_step(
-            p,
-            n,
-            State {
-                place: p + 6144,
-                misses: misses + 1,
-                lock: true,
-            },
-        );
+    if misses + 1 < limit {
+        return lost_step(p, n, lock_at(p + 6144, misses + 1));
     }
-    lost_step(
-        p,
-        n,
-        State {
-            place: p + 1,
-            misses: misses + 1,
-            lock: false,
-        },
-    )
+    lost_step(p, n, hunt_at(p + 1, misses + 1))
 }
 
-fn in_lock(bytes: &[u8], p: usize, misses: usize) -> Step
-    ensures { λ r. ⌜ r ≡ stepAt (now (bytes .entry)) (locked p misses) ⌝ }
+fn in_lock(bytes: &[u8], limit: usize, p: usize, misses: usize) -> Step
+    ensures { λ r. ⌜ r ≡ stepAt limit (now (bytes .entry)) (locked p misses) ⌝ }
 {
     let n = bytes.len();
-    if misses >= 3 {
-        return done_step(p, misses, true);
+    let walk = lock_at(p, misses);
+    if misses >= limit {
+        return done_step(walk);
     }
     if n < 6144 {
-        return done_step(p, misses, true);
+        return done_step(walk);
     }
     if p > n - 6144 {
-        return done_step(p, misses, true);
+        return done_step(walk);
     }
     let refusal = judge_at(bytes, p);
     if refusal == 0 {
         return frame_step(bytes, p);
     }
-    missed(bytes, p, misses, refusal)
+    missed(bytes, limit, p, misses, refusal)
 }
 
 impl State {
     // To the next frame or lost mark of the record; done, at its place, where there is none. Any state is taken.
     pub fn step(self, bytes: &[u8]) -> Step
-        ensures { λ r. ⌜ r ≡ stepAt (now (bytes .entry)) self ⌝ }
+        ensures { λ r. ⌜ r ≡ stepAt 3 (now (bytes .entry)) self ⌝ }
+    {
+        self.step_within(bytes, 3)
+    }
+
+    // The step with a limit of misses.
+    fn step_within(self, bytes: &[u8], limit: usize) -> Step
+        ensures { λ r. ⌜ r ≡ stepAt limit (now (bytes .entry)) self ⌝ }
     {
         let p = self.place;
         let misses = self.misses;
         if self.lock {
-            in_lock(bytes, p, misses)
+            in_lock(bytes, limit, p, misses)
         } else {
             hunt(bytes, p, misses)
         }
@@ -275,71 +279,5 @@ impl State {
 pub fn begin() -> State
     ensures { λ r. ⌜ r ≡ hunting 0 0 ⌝ }
 {
-    State {
-        place: 0,
-        misses: 0,
-        lock: false,
-    }
-}
-
-// How many frames and lost marks were handed out, the place of the last item, and whether that was done.
-pub struct Tally {
-    pub frames: usize,
-    pub lost: usize,
-    pub place: usize,
-    pub done: bool,
-}
-
-impl Tally {
-    // With one item more. The counts end at the largest usize, which no record reaches.
-    fn with(self, item: Item) -> Tally
-        requires { ⌜ (self .frames < 18446744073709551615) × (self .lost < 18446744073709551615) ⌝ }
-        ensures { λ r. ⌜ r ≡ tallyWith self item ⌝ }
-    {
-        match item {
-            Item::Frame(p, _) => Tally {
-                frames: self.frames + 1,
-                lost: self.lost,
-                place: p,
-                done: false,
-            },
-            Item::Lost(p, _) => Tally {
-                frames: self.frames,
-                lost: self.lost + 1,
-                place: p,
-                done: false,
-            },
-            Item::Done(p) => Tally {
-                frames: self.frames,
-                lost: self.lost,
-                place: p,
-                done: true,
-            },
-        }
-    }
-}
-
-// The tally of at most so many steps over a record, from the beginning of the walk.
-pub fn count(bytes: &[u8], steps: usize) -> Tally
-    ensures { λ r. ⌜ r ≡ tallyOf (now (bytes .entry)) steps ⌝ }
-{
-    let mut walk = begin();
-    let mut seen = Tally {
-        frames: 0,
-        lost: 0,
-        place: 0,
-        done: false,
-    };
-    let mut left = steps;
-    while left > 0 {
-        let step = walk.step(bytes);
-        let item = step.item;
-        walk = step.walk;
-        seen = seen.with(item);
-        if seen.done {
-            return seen;
-        }
-        left -= 1;
-    }
-    seen
+    hunt_at(0, 0)
 }

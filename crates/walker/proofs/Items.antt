@@ -6,34 +6,34 @@ use Prim.Native.Nat.{ℕ, zero, suc, _+_, _<_}
 use native.Mathlib.Omega.{arith}
 use lib.Dec.{lit<}
 use lib.ListN.{length, getD, replicate}
+use Rattle.walk.specs.declared.Item.{Item}
+use Rattle.walk.specs.declared.Item.the-variants.{Done}
 use Rattle.walk.specs.declared.State.{State}
-use Rattle.walk.specs.Walk.{Handed, done, hunting, items, rest, calls}
-use Rattle.walk.specs.Records.{judged, shown, stepShown, stepAt}
+use Rattle.walk.specs.Walk.{begin, items, rest, calls}
+use Rattle.walk.specs.Records.{judged, stepWith, stepAt}
 use Rattle.walk.proofs.Ending.{calls-items}
-use Rattle.walker.specs.Advance.{after, nthOf, itemOf}
+use Rattle.walker.specs.Advance.{stateAfter, nthOf, itemOf}
 
 -- of any more than n calls, the n-th
-called : (bytes : List ℕ) (n m : ℕ) (s : State) (d : Handed) → n < m → stepAt bytes (after bytes n s) .item ≡ shown bytes (getD (calls (judged 3 bytes) m s) n d)
-unfolding calls after stepAt stepShown
+called : (bytes : List ℕ) (n m : ℕ) (s : State) (d : Item) → n < m → stepAt 3 bytes (stateAfter bytes n s) .item ≡ getD (calls (judged 3 bytes) m s) n d
+unfolding calls stateAfter stepAt stepWith
 called bytes n zero s d h = absurd (omega (arith, h))
 called bytes zero (suc m) s d h = refl
-called bytes (suc n) (suc m) s d h = called bytes n m (stepAt bytes s .walk) d (omega (arith, h))
+called bytes (suc n) (suc m) s d h = called bytes n m (stepAt 3 bytes s .walk) d (omega (arith, h))
 
 -- what is found where there is nothing is the same put behind
-padded : (l : List Handed) (k n : ℕ) (d : Handed) → getD (l ++ replicate k d) n d ≡ getD l n d
+padded : (l : List Item) (k n : ℕ) (d : Item) → getD (l ++ replicate k d) n d ≡ getD l n d
 padded [] zero n d = refl
 padded [] (suc k) zero d = refl
 padded [] (suc k) (suc n) d = padded [] k n d
 padded (x ∷ l) k zero d = refl
 padded (x ∷ l) k (suc n) d = padded l k n d
 
-positive : (bytes : List ℕ) → 0 < judged 3 bytes .period
-unfolding judged
-positive bytes = lit< tt
-
 pub nth-item : (bytes : List ℕ) (n : ℕ) → nthOf bytes n .item ≡ itemOf bytes n
+unfolding judged
 nth-item bytes n =
     let R = judged 3 bytes in
-    let d = done (rest R (hunting 0 0) .place) in
-    called bytes n (length (items R (hunting 0 0)) + suc n) (hunting 0 0) d (omega arith)
-    ∙ (ap (λ (l : List Handed). shown bytes (getD l n d)) (calls-items R (positive bytes) (hunting 0 0) (suc n)) ∙ ap (shown bytes) (padded (items R (hunting 0 0)) (suc n) n d))
+    let d = Done (rest R begin .place) in
+    called bytes n (length (items R begin) + suc n) begin d (omega arith)
+    ∙ ap (λ (l : List Item). getD l n d) (calls-items R (lit< tt) begin (suc n))
+    ∙ padded (items R begin) (suc n) n d

@@ -1,4 +1,4 @@
 pub mod Held
 pub mod Items
-pub mod Parts
-pub mod Frames
+pub mod Periods
+pub mod WholeFrames

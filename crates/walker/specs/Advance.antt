@@ -12,8 +12,8 @@ use Rattle.walk.specs.declared.Item.{Item}
 use Rattle.walk.specs.declared.Item.the-variants.{Frame, Lost, Done}
 use Rattle.walk.specs.declared.State.{State}
 use Rattle.walk.specs.declared.Step.{Step}
-use Rattle.walk.specs.Walk.{done, hunting, items, rest}
-use Rattle.walk.specs.Records.{judged, shown, stepAt}
+use Rattle.walk.specs.Walk.{begin, items, rest}
+use Rattle.walk.specs.Records.{judged, stepAt}
 use Rattle.walker.specs.declared.Walk.{Walk}
 use Rattle.walker.specs.declared.Advanced.{Advanced}
 
@@ -37,25 +37,25 @@ FrameAt s x r = PartAt s (framePart (now s) x) r
 
 -- the very reference that came in, hunting at place 0
 abbrev pub begun : RefT (List ℕ) → Walk
-begun s = record { «record» = s; state = hunting 0 0 }
+begun s = record { «record» = s; state = begin }
 
 -- what the walk finds from where it stands
 abbrev pub found : Walk → Step
-found w = stepAt (now (w .«record»)) (w .state)
+found w = stepAt 3 (now (w .«record»)) (w .state)
 
 -- the item, its table, its frame, which is a reference of its own, and the same record at the state after
 abbrev pub advanced : Walk → RefT (List ℕ) → Advanced
 advanced w f = record { item = found w .item; table = found w .table; frame = f; walk = record { «record» = w .«record»; state = found w .walk } }
 
 -- the state n steps on
-unfoldable pub after : List ℕ → ℕ → State → State
-after bytes zero s = s
-after bytes (suc n) s = after bytes n (stepAt bytes s .walk)
+unfoldable pub stateAfter : List ℕ → ℕ → State → State
+stateAfter bytes zero s = s
+stateAfter bytes (suc n) s = stateAfter bytes n (stepAt 3 bytes s .walk)
 
 -- what the step after n steps hands back
 abbrev pub nthOf : List ℕ → ℕ → Step
-nthOf bytes n = stepAt bytes (after bytes n (hunting 0 0))
+nthOf bytes n = stepAt 3 bytes (stateAfter bytes n begin)
 
 -- the n-th of the items that the record's walk hands out; after the last of them done, where the walk rests
 abbrev pub itemOf : List ℕ → ℕ → Item
-itemOf bytes n = shown bytes (getD (items (judged 3 bytes) (hunting 0 0)) n (done (rest (judged 3 bytes) (hunting 0 0) .place)))
+itemOf bytes n = getD (items (judged 3 bytes) begin) n (Done (rest (judged 3 bytes) begin .place))

@@ -51,11 +51,7 @@ pub fn frame_of(record: &[u8], item: Item) -> &[u8]
 pub fn begin<'a>(record: &'a [u8]) -> Walk<'a>
     ensures { λ r. ⌜ r ≡ begun («record» .entry) ⌝ }
 {
-    let state = State {
-        place: 0,
-        misses: 0,
-        lock: false,
-    };
+    let state = walk::begin();
     Walk { record, state }
 }
 

@@ -5,15 +5,13 @@ use mathlib.Core.Path.{_≡_, refl, ap, _∙_}
 use Prim.Native.Nat.{ℕ, zero, suc, _+_, _-_, _*_, _≤_, _<_}
 use native.Mathlib.Omega.{arith}
 use lib.ListN.{length, getD, take, set, replicate, length-replicate}
-use lib.Seq.{length-take-le}
 use Rattle.frame.specs.declared.Stream.{Stream}
 use Rattle.octets.specs.Words.{split, join, bytes4}
 use Rattle.frame.specs.Frame.{sstcWidths}
 use Rattle.frame.specs.Answers.{noStream}
-use Rattle.frame.specs.Writing.{streamValues, streamsBytes}
-use Rattle.frame.proofs.Entries.{bytes-length, bytes-take}
+use Rattle.frame.specs.Writing.{streamValues, streamBytes, streamsBytes}
 use Rattle.octets.specs.Stores.{put}
-use Rattle.octets.proofs.Storing.{put-then, put-more}
+use Rattle.octets.proofs.Storing.{put-more, each-put}
 
 replicate-more : (k v : ℕ) → replicate k v ++ (v ∷ []) ≡ replicate (suc k) v
 replicate-more zero v = refl
@@ -30,8 +28,5 @@ pad-more l from i v h k =
 pub streams-more : (l : List ℕ) (t : List Stream) (i w : ℕ) → length l ≡ 6144 → length t ≡ 64 → i < 64
     → w ≡ join sstcWidths (streamValues (getD t i noStream))
     → put (put l 8 (streamsBytes (take i t))) (8 + 4 * i) (split bytes4 w) ≡ put l 8 (streamsBytes (take (i + 1) t))
-streams-more l t i w h k o e =
-    let a : length (take i t) ≡ i = length-take-le i t (omega arith) in
-    let b = bytes-length (take i t) in
-    let c : 8 + 4 * i ≡ 8 + length (streamsBytes (take i t)) = omega arith in
-    rw (bytes-take t i (omega arith), e, c) (put-then l 8 (streamsBytes (take i t)) (split bytes4 (join sstcWidths (streamValues (getD t i noStream)))) (omega arith))
+unfolding streamsBytes
+streams-more l t i w h k o e = rw e (each-put streamBytes 4 (λ s. refl) noStream l 8 t i (omega arith) (omega arith))

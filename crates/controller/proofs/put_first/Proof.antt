@@ -1,7 +1,8 @@
 use native.Mathlib.Omega.{arith}
 use lib.ListN.{length-set}
 use mathlib.Core.List.{[], _∷_}
-use Rattle.octets.proofs.Storing.{stores}
+use Rattle.octets.proofs.Storing.{stores, alone, low-byte}
+use Rattle.controller.proofs.Tables.{digit-alone}
 use borrow.Author.Needs.{needs}
 use Rattle.controller.proofs.put_first.Statement.{statement}
 use Rattle.controller.proofs.put_first.Tie as tie
@@ -22,7 +23,10 @@ slice-write-out-9 : tie.Need-slice-write-out-9
 slice-write-out-9 c = simp length-set (omega arith)
 
 returns : tie.Need-returns
-returns c = rw (← c .before .bit .ensures, ← c .bit2 .ensures) (stores _ 0 _ (_ ∷ _ ∷ _ ∷ _ ∷ _ ∷ _ ∷ _ ∷ _ ∷ []) (search needs))
+returns c =
+    let h = c .before .before .before .args .h in
+    rw (alone (h .level) (search needs), digit-alone (h .fsync1), alone (h .fct) (search needs), digit-alone (h .ficf), alone (h .nst) (search needs), alone (h .fp) (search needs), alone (h .mid) (search needs), low-byte (h .fl), ← c .before .bit .ensures, ← c .bit2 .ensures)
+    (stores _ 0 _ (_ ∷ _ ∷ _ ∷ _ ∷ _ ∷ _ ∷ _ ∷ _ ∷ []) (search needs))
 
 pub put-first-spec : {M : Type 1} → statement M
 put-first-spec =

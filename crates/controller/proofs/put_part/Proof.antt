@@ -1,5 +1,5 @@
 use mathlib.Core.List.{[], _∷_}
-use Rattle.octets.proofs.Storing.{stores-all}
+use Rattle.octets.proofs.Storing.{stores-all, low-byte}
 use Rattle.controller.specs.Boundary.{partBytes}
 use borrow.Author.Needs.{needs}
 use Rattle.controller.proofs.put_part.Statement.{statement}
@@ -7,7 +7,7 @@ use Rattle.controller.proofs.put_part.Tie as tie
 
 returns : tie.Need-returns
 unfolding partBytes
-returns c = stores-all (c .args .out .now) _ (_ ∷ _ ∷ _ ∷ []) (search needs)
+returns c = rw (low-byte (c .args .part .start), low-byte (c .args .part .len)) (stores-all (c .args .out .now) _ (_ ∷ _ ∷ _ ∷ []) (search needs))
 
 pub put-part-spec : {M : Type 1} → statement M
 put-part-spec =

@@ -1,7 +1,8 @@
 use native.Mathlib.Omega.{arith}
 use lib.ListN.{length-set}
 use mathlib.Core.List.{[], _∷_}
-use Rattle.octets.proofs.Storing.{stores}
+use Rattle.octets.proofs.Storing.{stores, alone, low-byte}
+use Rattle.controller.proofs.Tables.{sort-alone}
 use borrow.Author.Needs.{needs}
 use Rattle.controller.proofs.put_second.Statement.{statement}
 use Rattle.controller.proofs.put_second.Tie as tie
@@ -25,7 +26,10 @@ same-length : tie.Need-same-length
 same-length c = simp length-set
 
 returns : tie.Need-returns
-returns c = rw (← c .before .sort .ensures, ← c .time .ensures) (stores _ 9 _ (_ ∷ _ ∷ _ ∷ _ ∷ _ ∷ _ ∷ _ ∷ _ ∷ []) (search needs))
+returns c =
+    let h = c .before .before .before .args .h in
+    rw (low-byte (h .mnsc), low-byte (h .rfu), alone (h .rfa) (search needs), sort-alone (h .timestamp), ← c .before .sort .ensures, ← c .time .ensures, low-byte (c .time .result))
+    (stores _ 9 _ (_ ∷ _ ∷ _ ∷ _ ∷ _ ∷ _ ∷ _ ∷ _ ∷ []) (search needs))
 
 pub put-second-spec : {M : Type 1} → statement M
 put-second-spec =

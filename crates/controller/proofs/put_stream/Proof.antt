@@ -1,7 +1,7 @@
 use native.Mathlib.Omega.{arith}
 use lib.ListN.{length-set}
 use mathlib.Core.List.{[], _∷_}
-use Rattle.octets.proofs.Storing.{stores}
+use Rattle.octets.proofs.Storing.{stores, alone, low-byte}
 use borrow.Author.Needs.{needs}
 use Rattle.controller.proofs.put_stream.Statement.{statement}
 use Rattle.controller.proofs.put_stream.Tie as tie
@@ -25,7 +25,9 @@ same-length : tie.Need-same-length
 same-length c = simp length-set
 
 returns : tie.Need-returns
-returns c = stores _ _ _ (_ ∷ _ ∷ _ ∷ _ ∷ _ ∷ []) (search needs)
+returns c =
+    let s = c .args .s in
+    rw (alone (s .scid) (search needs), low-byte (s .sad), alone (s .tpl) (search needs), low-byte (s .stl)) (stores _ _ _ (_ ∷ _ ∷ _ ∷ _ ∷ _ ∷ []) (search needs))
 
 pub put-stream-spec : {M : Type 1} → statement M
 put-stream-spec =

@@ -1,11 +1,11 @@
-use Rattle.walk.specs.Records.{doneAt}
+use Rattle.walk.specs.Records.{tableOf, stepWith}
 use borrow.Author.Needs.{needs}
 use Rattle.walk.proofs.done_step.Statement.{statement}
 use Rattle.walk.proofs.done_step.Tie as tie
 
 returns : tie.Need-returns
-unfolding doneAt
-returns c = cc
+unfolding stepWith tableOf
+returns c = λ bytes. cc
 
 pub done-step-spec : {M : Type 1} → statement M
 done-step-spec = tie.close (tie.spec (λ c κs. search needs) returns)

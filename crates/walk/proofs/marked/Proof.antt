@@ -4,27 +4,27 @@ use Prim.Native.Nat.{_+_, _-_, _≤_}
 use native.Mathlib.Omega.{arith}
 use native.Mathlib.Nat.{le-antisymm}
 use borrow.Author.Needs.{needs}
-use Rattle.walk.specs.Records.{Onward}
-use Rattle.walk.proofs.Steps.{stays, further, passes}
+use Rattle.walk.specs.Inner.{NoneStands}
+use Rattle.walk.proofs.Stepping.{none-passed, one-passed, then-passed}
 use Rattle.octets.proofs.Deciding.{neither}
 use Rattle.walk.proofs.marked.Statement.{statement}
 use Rattle.walk.proofs.marked.Tie as tie
 
 abbrev Inv-loop : tie.InvT-loop
-Inv-loop bytes p found₀ i₀ found i = (i ≤ 64) × (found ≡ false → Onward bytes p (p + i))
+Inv-loop bytes p found₀ i₀ found i = (i ≤ 64) × (found ≡ false → NoneStands bytes p (p + i))
 
 abbrev μ-loop : tie.MeasureT-loop
 μ-loop bytes p found₀ i₀ found i = 64 - i
 
 loop-holds : tie.Need-loop-holds Inv-loop μ-loop
-loop-holds c = (search needs, λ _. stays _ (omega arith))
+loop-holds c = (search needs, λ _. none-passed _ (omega arith))
 
 loop-again : tie.Need-loop-again Inv-loop μ-loop
 loop-again c = (
   search needs,
   λ e.
       let n = neither _ _ e in
-      further (passes (c .before .before .loop .inv .1 (n .0)) (omega arith) (c .mark-at .ensures (n .1))) (stays _ (omega arith)),
+      then-passed _ (c .before .before .loop .inv .1 (n .0)) (one-passed _ (omega arith) (omega arith) (c .mark-at .ensures (n .1))),
 )
 
 returns : tie.Need-returns Inv-loop μ-loop

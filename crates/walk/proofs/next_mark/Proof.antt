@@ -3,13 +3,13 @@ use Prim.Native.Nat.{suc, _+_, _-_}
 use lib.ListN.{length}
 use native.Mathlib.Omega.{arith}
 use borrow.Author.Needs.{needs}
-use Rattle.walk.specs.Records.{Onward}
-use Rattle.walk.proofs.Steps.{passes}
+use Rattle.walk.specs.Inner.{NoneStands}
+use Rattle.walk.proofs.Stepping.{one-passed, then-passed}
 use Rattle.walk.proofs.next_mark.Statement.{statement}
 use Rattle.walk.proofs.next_mark.Tie as tie
 
 abbrev Inv-loop : tie.InvT-loop
-Inv-loop bytes from last p₀ p = (last + 6144 ≡ length bytes) × Onward bytes from p
+Inv-loop bytes from last p₀ p = (last + 6144 ≡ length bytes) × NoneStands bytes from p
 
 abbrev μ-loop : tie.MeasureT-loop
 μ-loop bytes from last p₀ p = suc last - p
@@ -19,7 +19,7 @@ loop-holds c = (omega arith, c .past-unmarked .ensures)
 
 loop-again : tie.Need-loop-again Inv-loop μ-loop
 loop-again c =
-    (omega arith, passes (c .before .before .before .loop .inv .1) (omega arith) (c .before .mark-at .ensures (c .if1 .left)))
+    (omega arith, then-passed _ (c .before .before .before .loop .inv .1) (one-passed _ refl (omega arith) (c .before .mark-at .ensures (c .if1 .left))))
 
 pub next-mark-spec : {M : Type 1} → statement M
 next-mark-spec =

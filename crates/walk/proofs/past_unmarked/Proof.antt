@@ -2,25 +2,25 @@ use mathlib.Core.Path.{_≡_, refl}
 use Prim.Native.Nat.{suc, _-_}
 use lib.ListN.{length}
 use borrow.Author.Needs.{needs}
-use Rattle.walk.specs.Records.{Onward}
-use Rattle.walk.proofs.Steps.{stays, further}
+use Rattle.walk.specs.Inner.{NoneStands}
+use Rattle.walk.proofs.Stepping.{none-passed, then-passed}
 use Rattle.walk.proofs.past_unmarked.Statement.{statement}
 use Rattle.walk.proofs.past_unmarked.Tie as tie
 
 abbrev Inv-loop : tie.InvT-loop
-Inv-loop bytes from n p₀ p = (n ≡ length bytes) × Onward bytes from p
+Inv-loop bytes from n p₀ p = (n ≡ length bytes) × NoneStands bytes from p
 
 abbrev μ-loop : tie.MeasureT-loop
 μ-loop bytes from n p₀ p = suc n - p
 
 returns : tie.Need-returns Inv-loop μ-loop
-returns c = stays _ refl
+returns c = none-passed _ refl
 
 loop-holds : tie.Need-loop-holds Inv-loop μ-loop
-loop-holds c = (refl, stays _ refl)
+loop-holds c = (refl, none-passed _ refl)
 
 loop-again : tie.Need-loop-again Inv-loop μ-loop
-loop-again c = (refl, further (c .before .before .before .loop .inv .1) (c .before .marked .ensures (c .if2 .left)))
+loop-again c = (refl, then-passed _ (c .before .before .before .loop .inv .1) (c .before .marked .ensures (c .if2 .left)))
 
 pub past-unmarked-spec : {M : Type 1} → statement M
 past-unmarked-spec =

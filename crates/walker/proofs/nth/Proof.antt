@@ -55,7 +55,7 @@ use Rattle.walk.proofs.Step as S
 use Rattle.walk.proofs.Step.Laws as S′
 use Rattle.walk.proofs.Item as I
 use Rattle.walk.proofs.Item.Laws as I′
-use Rattle.walker.specs.Advance.{FrameAt, begun, advanced, after, nthOf}
+use Rattle.walker.specs.Advance.{FrameAt, begun, advanced, stateAfter, nthOf}
 use Rattle.walker.specs.declared.Walk.{Walk}
 use Rattle.walker.specs.declared.Advanced.{Advanced}
 use Rattle.walker.proofs.Held.{Good, start-good, val, on, α, αᵉ, D, L, OwnRecord, mach, Own, holds, typed}
@@ -90,13 +90,13 @@ abbrev Went : Walk → Advanced → Type 0
 Went d r = (r ≡ advanced d (r .frame)) × FrameAt (d .«record») (r .item) (r .frame)
 
 -- no step is left
-arrived : (bytes : List ℕ) (m : ℕ) (t u : State) → m ≡ 0 → after bytes m t ≡ u → t ≡ u
-unfolding after
-arrived bytes m t u z e = sym (ap (λ (k : ℕ). after bytes k t) z) ∙ e
+arrived : (bytes : List ℕ) (m : ℕ) (t u : State) → m ≡ 0 → stateAfter bytes m t ≡ u → t ≡ u
+unfolding stateAfter
+arrived bytes m t u z e = sym (ap (λ (k : ℕ). stateAfter bytes k t) z) ∙ e
 
 -- one is left, at least
-goes-on : (bytes : List ℕ) (m : ℕ) (t : State) → Holds (not (eqb m 0)) → (1 ≤ m) × (after bytes m t ≡ after bytes (m - 1) (stepAt bytes t .walk))
-unfolding after
+goes-on : (bytes : List ℕ) (m : ℕ) (t : State) → Holds (not (eqb m 0)) → (1 ≤ m) × (stateAfter bytes m t ≡ stateAfter bytes (m - 1) (stepAt 3 bytes t .walk))
+unfolding stateAfter
 goes-on bytes zero t h = absurd h
 goes-on bytes (suc m) t h = let z : suc m - 1 ≡ m = omega arith in (omega arith, rw z)
 
@@ -173,7 +173,7 @@ module _ {M : Type 1} (𝓤 : URA M) (H : Heap 𝓤) (A : Atoms 𝓤) (W : Given
 
   -- the variant: how many steps are left from a state, which end where all of them do
   abbrev Upto : Type 0
-  Upto = (m : ℕ) × (t : State) × Good t × (m ≤ n) × (after (now s) m t ≡ after (now s) n (hunting 0 0))
+  Upto = (m : ℕ) × (t : State) × Good t × (m ≤ n) × (stateAfter (now s) m t ≡ stateAfter (now s) n (hunting 0 0))
 
   abbrev Nearer : Upto → Upto → Type 0
   Nearer u t = u .0 < t .0
@@ -221,14 +221,14 @@ module _ {M : Type 1} (𝓤 : URA M) (H : Heap 𝓤) (A : Atoms 𝓤) (W : Given
           assigns ! (agg ! (and-then ! (load ! (from ! (stop !)) (look ! 6 refl)) (and-then ! (load ! (from ! (stop !)) (look ! 4 refl)) (and-then ! (load ! (from ! (stop !)) (look ! 2 refl)) (no-more !))))) (from ! (stop !)) (init ! 22 refl (LL.lawful S.the-type S′.the-laws 𝓤 H A W .typed (taken r) _ (taken-is r is) .0)) $
           returns-within ! Post refl (look ! 22 refl) $ forget ! 2 refl $ forget ! 4 refl $ forget ! 6 refl $ forget ! 8 refl $ forget ! 10 refl $ forget ! 12 refl $ forget ! 14 refl $ forget ! 16 refl $ forget ! 18 refl $ forget ! 20 refl $ forget ! 22 refl $
           move ! (22 ∷ 23 ∷ []) $ free1 ! $ move ! (20 ∷ 21 ∷ []) $ free1 ! $ move ! (18 ∷ 19 ∷ []) $ free1 ! $ move ! (16 ∷ 17 ∷ []) $ free1 ! $ move ! (14 ∷ 15 ∷ []) $ free1 ! $ move ! (12 ∷ 13 ∷ []) $ free1 ! $ move ! (10 ∷ 11 ∷ []) $ free1 ! $ move ! (8 ∷ 9 ∷ []) $ free1 ! $ move ! (6 ∷ 7 ∷ []) $ free1 ! $ move ! (4 ∷ 5 ∷ []) $ free1 ! $ move ! (2 ∷ 3 ∷ []) $ free1 ! $ free0 ! $
-          by ! (exits (taken r) (ap taken (e .0) ∙ ap (stepAt (now s)) (arrived (now s) (t .0) (t .1) _ (eqb→eq (t .0) 0 h) (t .4))) (taken-is r is)))
+          by ! (exits (taken r) (ap taken (e .0) ∙ ap (stepAt 3 (now s)) (arrived (now s) (t .0) (t .1) _ (eqb→eq (t .0) 0 h) (t .4))) (taken-is r is)))
           (λ h. let more = goes-on (now s) (t .0) (t .1) h in
           skips ! $ exec ! C Λ En moves-on (anyQ (Turned t)) $
           assigns ! (of-opd ! (load ! (from ! (fld ! refl (stop !))) (look-in ! 12 (sub ! 3 refl (whole !))))) (from ! (stop !)) (store ! 16 refl (LL.lawful (T.the-type (αᵉ κ)) (T′.the-laws (αᵉ κ)) 𝓤 H A W .typed (r .walk) _ (LL.owed (R.the-type (α κ)) (R′.the-laws (α κ)) r _ is .1 .1 .1 .0) .0)) $
           assigns-last ! (bin ! (load ! (from ! (stop !)) (look ! 14 refl)) (lit ! tt) (more .0)) (from ! (stop !)) (store ! 14 refl (tt, record { fits = fewer t })) $
           forget ! 8 refl $ forget ! 10 refl $ forget ! 12 refl $
           rewrite ! 16 (λ (d : Walk). ‵ (fat fullShare walkT l₃ 0 (mach κ d))) (λ i. record { «record» = e .0 i .walk .«record»; state = r .walk .state }) refl $
-          again ! Nearer At t (t .0 - 1, r .walk .state, state-is r is, within t, sym (more .1 ∙ ap (λ (x : Advanced). after (now s) (t .0 - 1) (x .walk .state)) (sym (e .0))) ∙ t .4) (nearer t (more .0)))))))
+          again ! Nearer At t (t .0 - 1, r .walk .state, state-is r is, within t, sym (more .1 ∙ ap (λ (x : Advanced). stateAfter (now s) (t .0 - 1) (x .walk .state)) (sym (e .0))) ∙ t .4) (nearer t (more .0)))))))
         where
           state-is : (r : Advanced) {u : Val} → Is (R.the-row (α κ)) r (u ∷ []) → Good (r .walk .state)
           state-is r is = LL.owed (D κ) (L κ) (r .walk) _ (LL.owed (R.the-type (α κ)) (R′.the-laws (α κ)) r _ is .1 .1 .1 .0) .1 .0

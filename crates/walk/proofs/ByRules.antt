@@ -2,14 +2,15 @@
 -- Assumes nothing.
 use Prim.Native.Nat.{ℕ, _+_, _≤_, _<_}
 use mathlib.Core.Path.{_≡_, refl}
-use mathlib.Core.Bool.{Bool, true, false, _&&_}
+use mathlib.Core.Bool.{Bool, true, false, not, and-false, _&&_}
 use mathlib.Core.Option.{none, some}
-use lib.Dec.{ltb}
+use lib.Dec.{leb, ltb}
 use native.Mathlib.Omega.{arith}
-use borrow.Author.Tests.{leb-true, ltb-true}
-use Rattle.walk.specs.Demand3.{placeOf}
+use borrow.Author.Tests.{leb-true, leb-false, ltb-true, lt-leb}
+use Rattle.frame.specs.declared.Header.{Header}
 use Rattle.octets.specs.Choice.{pick}
-use Rattle.walk.specs.Walk.{Judged, State, Look, frame, lost, done, fits, confirmed, live, itemAt, keeps, lookLocked, lookHunting, look, locked, hunting}
+use Rattle.walk.specs.Walk.{Judged, State, Frame, Lost, Done, Look, fits, confirmed, live, frameAt, itemAt, keeps, lookLocked, lookHunting, look, locked, hunting}
+use Rattle.walk.specs.ItemValues.{placeOf}
 
 pub and-left : (a b : Bool) → (a && b) ≡ true → a ≡ true
 and-left true b e = refl
@@ -23,37 +24,60 @@ pub live-fits : (R : Judged) (s : State) → live R s ≡ true → s .place + R 
 unfolding live
 live-fits R s e = leb-true (s .place + R .period) (R .len) (and-left (fits R (s .place)) _ e)
 
+not-spent : (a b : Bool) → (a && not b) ≡ true → b ≡ false
+not-spent true false e = refl
+not-spent true true e = cc
+not-spent false b e = cc
+
+pub live-few : (R : Judged) (p k : ℕ) → live R (locked p k) ≡ true → k < R .limit
+unfolding live
+live-few R p k e = leb-false (R .limit) k (not-spent (fits R p) (leb (R .limit) k) e)
+
+-- OF `confirmed`: it stands, and a place that does not, or has no period after it, is not confirmed
+module _ (R : Judged) (p : ℕ) where
+  pub confirmed-stands : confirmed R p ≡ true → R .stands p ≡ true
+  unfolding confirmed
+  confirmed-stands e = and-left (R .stands p) _ e
+
+  pub not-standing : R .stands p ≡ false → confirmed R p ≡ false
+  unfolding confirmed
+  not-standing e = rw e
+
+  pub unfollowed : R .len < p + R .period + R .period → confirmed R p ≡ false
+  unfolding confirmed
+  unfollowed h = rw (lt-leb (p + R .period + R .period) (R .len) h) (and-false (R .stands p))
+
 -- OF `itemAt` AND `keeps`, all that the proofs use: these three, with `frame-keeps`
 pub stands-keeps : (R : Judged) (p : ℕ) → R .stands p ≡ true → keeps R p ≡ true
 unfolding keeps
 stands-keeps R p e = e
 
-pub stands-item : (R : Judged) (p : ℕ) → R .stands p ≡ true → itemAt R p ≡ frame p
+pub stands-item : (R : Judged) (p : ℕ) → R .stands p ≡ true → itemAt R p ≡ frameAt R p
 unfolding itemAt
 stands-item R p e = rw e
 
 pub place-item : (R : Judged) (p : ℕ) → placeOf (itemAt R p) ≡ p
-unfolding itemAt placeOf
+unfolding itemAt
 place-item R p = go (R .stands p)
   where
-    go : (b : Bool) → placeOf (pick b (frame p) (lost p (R .number p))) ≡ p
+    go : (b : Bool) → placeOf (pick b (frameAt R p) (Lost p (R .number p))) ≡ p
     go true = refl
     go false = refl
 
 -- an item in lock is a frame only where the lock is kept, and it is never done
-frame-keeps : (R : Judged) (p q : ℕ) → itemAt R p ≡ frame q → (p ≡ q) × (keeps R p ≡ true)
+frame-keeps : (R : Judged) (p q : ℕ) (h : Header) → itemAt R p ≡ Frame q h → (p ≡ q) × (keeps R p ≡ true)
 unfolding itemAt keeps
-frame-keeps R p q = go (R .stands p)
+frame-keeps R p q h = go (R .stands p)
   where
-    go : (b : Bool) → pick b (frame p) (lost p (R .number p)) ≡ frame q → (p ≡ q) × (b ≡ true)
+    go : (b : Bool) → pick b (frameAt R p) (Lost p (R .number p)) ≡ Frame q h → (p ≡ q) × (b ≡ true)
     go true e = (cc, refl)
     go false e = (cc, cc)
 
-item-not-done : (R : Judged) (p q : ℕ) → itemAt R p ≡ done q → ⊥
+item-not-done : (R : Judged) (p q : ℕ) → itemAt R p ≡ Done q → ⊥
 unfolding itemAt
 item-not-done R p q = go (R .stands p)
   where
-    go : (b : Bool) → pick b (frame p) (lost p (R .number p)) ≡ done q → ⊥
+    go : (b : Bool) → pick b (frameAt R p) (Lost p (R .number p)) ≡ Done q → ⊥
     go true e = let z : _≡_ {A = ℕ} 0 1 = cc in omega arith
     go false e = let z : _≡_ {A = ℕ} 0 1 = cc in omega arith
 
@@ -62,7 +86,7 @@ pub by-rules : (R : Judged) (Q : State → Look → Type 0) →
     ((p k : ℕ) → keeps R p ≡ true → Q (locked p k) (record { gives = some (itemAt R p); goes = locked (p + R .period) 0 })) →
     ((p k : ℕ) → keeps R p ≡ false → k + 1 < R .limit → Q (locked p k) (record { gives = some (itemAt R p); goes = locked (p + R .period) (k + 1) })) →
     ((p k : ℕ) → keeps R p ≡ false → Q (locked p k) (record { gives = some (itemAt R p); goes = hunting (p + 1) (k + 1) })) →
-    ((p k : ℕ) → Q (hunting p k) (record { gives = some (frame p); goes = locked (p + R .period) 0 })) →
+    ((p k : ℕ) → confirmed R p ≡ true → Q (hunting p k) (record { gives = some (frameAt R p); goes = locked (p + R .period) 0 })) →
     ((p k : ℕ) → Q (hunting p k) (record { gives = none; goes = hunting (p + 1) k })) →
     (s : State) → Q s (look R s)
 unfolding look lookLocked lookHunting
@@ -76,25 +100,25 @@ by-rules R Q kept missed last hit passed s = go (s .place) (s .misses) (s .lock)
     inLock p k true e = kept p k e
     inLock p k false e = lose p k e (ltb (k + 1) (R .limit)) refl
 
-    hunts : (p k : ℕ) (b : Bool) → Q (hunting p k) (pick b (record { gives = some (frame p); goes = locked (p + R .period) 0 }) (record { gives = none; goes = hunting (p + 1) k }))
-    hunts p k true = hit p k
-    hunts p k false = passed p k
+    hunts : (p k : ℕ) (b : Bool) → confirmed R p ≡ b → Q (hunting p k) (pick b (record { gives = some (frameAt R p); goes = locked (p + R .period) 0 }) (record { gives = none; goes = hunting (p + 1) k }))
+    hunts p k true e = hit p k e
+    hunts p k false e = passed p k
 
     go : (p k : ℕ) (b : Bool) → Q (record { place = p; misses = k; lock = b }) (pick b (lookLocked R p k) (lookHunting R p k))
     go p k true = inLock p k (keeps R p) refl
-    go p k false = hunts p k (confirmed R p)
+    go p k false = hunts p k (confirmed R p) refl
 
 -- each look is at a later place than the one before
 pub further : (R : Judged) → 0 < R .period → (s : State) → s .place < look R s .goes .place
-further R positive = by-rules R (λ s l. s .place < l .goes .place) (λ p k e. omega arith) (λ p k e b. omega arith) (λ p k e. omega arith) (λ p k. omega arith) (λ p k. omega arith)
+further R positive = by-rules R (λ s l. s .place < l .goes .place) (λ p k e. omega arith) (λ p k e b. omega arith) (λ p k e. omega arith) (λ p k e. omega arith) (λ p k. omega arith)
 
 -- after a frame the walk is in lock, a period later, with no misses
-pub frame-locks : (R : Judged) (s : State) (q : ℕ) → look R s .gives ≡ some (frame q) → look R s .goes ≡ locked (q + R .period) 0
-frame-locks R s q = by-rules R (λ s l. l .gives ≡ some (frame q) → l .goes ≡ locked (q + R .period) 0)
-    (λ p k e f. cc (frame-keeps R p q (cc) .0)) (λ p k e b f. cc (frame-keeps R p q (cc) .1)) (λ p k e f. cc (frame-keeps R p q (cc) .1)) (λ p k f. cc) (λ p k f. cc) s
+pub frame-locks : (R : Judged) (s : State) (q : ℕ) (h : Header) → look R s .gives ≡ some (Frame q h) → look R s .goes ≡ locked (q + R .period) 0
+frame-locks R s q h = by-rules R (λ s l. l .gives ≡ some (Frame q h) → l .goes ≡ locked (q + R .period) 0)
+    (λ p k e f. cc (frame-keeps R p q h (cc) .0)) (λ p k e b f. cc (frame-keeps R p q h (cc) .1)) (λ p k e f. cc (frame-keeps R p q h (cc) .1)) (λ p k e f. cc) (λ p k f. cc) s
 
 -- no look hands out done
-pub never-done : (R : Judged) (s : State) (q : ℕ) → look R s .gives ≡ some (done q) → ⊥
-never-done R s q = by-rules R (λ s l. l .gives ≡ some (done q) → ⊥)
+pub never-done : (R : Judged) (s : State) (q : ℕ) → look R s .gives ≡ some (Done q) → ⊥
+never-done R s q = by-rules R (λ s l. l .gives ≡ some (Done q) → ⊥)
     (λ p k e f. item-not-done R p q (cc)) (λ p k e b f. item-not-done R p q (cc)) (λ p k e f. item-not-done R p q (cc))
-    (λ p k f. let z : _≡_ {A = ℕ} 0 1 = cc in omega arith) (λ p k f. let z : _≡_ {A = ℕ} 0 1 = cc in omega arith) s
+    (λ p k e f. let z : _≡_ {A = ℕ} 0 1 = cc in omega arith) (λ p k f. let z : _≡_ {A = ℕ} 0 1 = cc in omega arith) s

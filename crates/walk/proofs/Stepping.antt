@@ -1,0 +1,167 @@
+-- The step over the bytes of a record, as the code's proofs cite it.
+-- Assumes nothing.
+use mathlib.Core.Bool.{Bool, true, false}
+use mathlib.Core.List.{List}
+use mathlib.Core.Logic.{inl, inr}
+use mathlib.Core.Path.{_≡_, refl, sym, ap, ap₂, subst, _∙_}
+use Prim.Native.Nat.{ℕ, zero, suc, _+_, _-_, _≤_, _<_}
+use native.Mathlib.Nat.{add-sub-cancel-left}
+use native.Mathlib.Decide.{decLe}
+use native.Mathlib.Omega.{arith}
+use lib.Dec.{lit<}
+use lib.ListN.{length, take, drop}
+use borrow.Author.Tests.{eq-eqb, ne-eqb, eqb-true, le-leb}
+use Rattle.frame.specs.declared.Answer.the-variants.{Accepted, Refused}
+use Rattle.frame.specs.declared.Header.{Header}
+use Rattle.frame.specs.declared.Reading.{Reading}
+use Rattle.frame.specs.Rules.{refusalOf}
+use Rattle.frame.specs.Answers.{Reads}
+use Rattle.reading.proofs.Answered.{got-header, got-table, got-refused, got-nonzero}
+use Rattle.walk.specs.declared.State.{State}
+use Rattle.walk.specs.declared.Step.{Step}
+use Rattle.walk.specs.Walk.{Item, Frame, Lost, Done, Stepped, differ, confirmed, itemAt, keeps, stepOf, hunting, locked}
+use Rattle.walk.specs.Records.{part, judged, fsync1At, frameIn, tableOf, stepWith, stepAt}
+use Rattle.walk.specs.Truth.{Over}
+use Rattle.walk.specs.Inner.{NoneStands}
+use Rattle.walk.proofs.ByRules.{confirmed-stands, not-standing, unfollowed}
+use Rattle.walk.proofs.Laws.{step-short, step-spent, step-kept, step-missed, step-last, step-confirmed, step-passed}
+
+pub part-is : (bytes : List ℕ) (p : ℕ) → take (p + 6144 - p) (drop p bytes) ≡ part bytes p
+part-is bytes p = ap (λ (n : ℕ). take n (drop p bytes)) (add-sub-cancel-left p 6144)
+
+pub as-locked : (s : State) → s .lock ≡ true → locked (s .place) (s .misses) ≡ s
+as-locked s e = λ i. record { place = s .place; misses = s .misses; lock = sym e i }
+
+pub as-hunting : (s : State) → s .lock ≡ false → hunting (s .place) (s .misses) ≡ s
+as-hunting s e = λ i. record { place = s .place; misses = s .misses; lock = sym e i }
+
+-- the period at p is refused
+refused-stands : (limit : ℕ) (bytes : List ℕ) (p n : ℕ) → n ≡ refusalOf (part bytes p) → (n ≡ 0 → ⊥) → judged limit bytes .stands p ≡ false
+unfolding judged
+refused-stands limit bytes p n e z = ne-eqb (refusalOf (part bytes p)) 0 (λ q. z (e ∙ q))
+
+module _ (limit : ℕ) (bytes : List ℕ) where
+  -- the step over a record, from the walk's step
+  as-step : (s : State) (x : Item) (t : State) → stepOf (judged limit bytes) s ≡ record { item = x; walk = t } → stepWith bytes x t ≡ stepAt limit bytes s
+  unfolding stepAt
+  as-step s x t e = ap (λ (r : Stepped). stepWith bytes (r .item) (r .walk)) (sym e)
+
+  -- where the walk s can go no further
+  spent : (s : State) → s .lock ≡ true → limit ≤ s .misses → stepWith bytes (Done (s .place)) s ≡ stepAt limit bytes s
+  unfolding judged
+  spent s l h =
+      subst (λ (t : State). stepWith bytes (Done (t .place)) t ≡ stepAt limit bytes t) (as-locked s l)
+      (as-step (locked (s .place) (s .misses)) (Done (s .place)) (locked (s .place) (s .misses)) (step-spent (judged limit bytes) (lit< tt) (s .place) (s .misses) h))
+
+  pub over-done : (s : State) → Over limit bytes s → (w : State) → w ≡ s → stepWith bytes (Done (w .place)) w ≡ stepAt limit bytes s
+  unfolding judged
+  over-done s (inl h) w e = ap (λ (t : State). stepWith bytes (Done (t .place)) t) e ∙ as-step s (Done (s .place)) s (step-short (judged limit bytes) (lit< tt) s h)
+  over-done s (inr (l, h)) w e = ap (λ (t : State). stepWith bytes (Done (t .place)) t) e ∙ spent s l h
+
+  module _ (p k : ℕ) where
+    module _ (room : p + 6144 ≤ length bytes) where
+      pub lock-stands : k < limit → refusalOf (part bytes p) ≡ 0 → stepWith bytes (frameIn bytes p) (locked (p + 6144) 0) ≡ stepAt limit bytes (locked p k)
+      unfolding judged itemAt keeps
+      lock-stands h e =
+          let y = eq-eqb (refusalOf (part bytes p)) 0 e in
+          as-step (locked p k) (frameIn bytes p) (locked (p + 6144) 0) (step-kept (judged limit bytes) (lit< tt) p k room h y ∙ (rw y))
+
+      pub lock-missed : k + 1 < limit → (n : ℕ) → n ≡ refusalOf (part bytes p) → (n ≡ 0 → ⊥) → (w : State) → w ≡ locked (p + 6144) (k + 1) → stepWith bytes (Lost p n) w ≡ stepAt limit bytes (locked p k)
+      unfolding judged itemAt keeps
+      lock-missed h n e z w q =
+          let y = refused-stands limit bytes p n e z in
+          ap (stepWith bytes (Lost p n)) q ∙ as-step (locked p k) (Lost p n) (locked (p + 6144) (k + 1)) (step-missed (judged limit bytes) (lit< tt) p k room h y ∙ (rw (y, e)))
+
+      pub lock-last : k + 1 ≡ limit → (n : ℕ) → n ≡ refusalOf (part bytes p) → (n ≡ 0 → ⊥) → (w : State) → w ≡ hunting (p + 1) (k + 1) → stepWith bytes (Lost p n) w ≡ stepAt limit bytes (locked p k)
+      unfolding judged itemAt keeps
+      lock-last h n e z w q =
+          let y = refused-stands limit bytes p n e z in
+          ap (stepWith bytes (Lost p n)) q ∙ as-step (locked p k) (Lost p n) (hunting (p + 1) (k + 1)) (step-last (judged limit bytes) (lit< tt) p k room h y ∙ (rw (y, e)))
+
+      pub hunt-confirmed : confirmed (judged limit bytes) p ≡ true → stepWith bytes (frameIn bytes p) (locked (p + 6144) 0) ≡ stepAt limit bytes (hunting p k)
+      unfolding judged
+      hunt-confirmed e = as-step (hunting p k) (frameIn bytes p) (locked (p + 6144) 0) (step-confirmed (judged limit bytes) (lit< tt) p k room e)
+
+      hunt-on : confirmed (judged limit bytes) p ≡ false → stepAt limit bytes (hunting p k) ≡ stepAt limit bytes (hunting (p + 1) k)
+      unfolding judged stepAt
+      hunt-on e = ap (λ (r : Stepped). stepWith bytes (r .item) (r .walk)) (step-passed (judged limit bytes) (lit< tt) p k room e)
+
+-- ---- what confirms a place
+module _ (limit : ℕ) (bytes : List ℕ) (p : ℕ) where
+  pub confirmed-accepted : confirmed (judged limit bytes) p ≡ true → refusalOf (part bytes p) ≡ 0
+  unfolding judged
+  confirmed-accepted e = eqb-true (refusalOf (part bytes p)) 0 (confirmed-stands (judged limit bytes) p e)
+
+  pub unconfirmed : (n : ℕ) → n ≡ refusalOf (part bytes p) → (n ≡ 0 → ⊥) → false ≡ confirmed (judged limit bytes) p
+  unconfirmed n e z = sym (not-standing (judged limit bytes) p (refused-stands limit bytes p n e z))
+
+  pub no-second : length bytes < p + 6144 + 6144 → false ≡ confirmed (judged limit bytes) p
+  unfolding judged
+  no-second h = sym (unfollowed (judged limit bytes) p h)
+
+  module _ (n : ℕ) (e : n ≡ refusalOf (part bytes p)) (z : n ≡ 0) (h : p + 6144 + 6144 ≤ length bytes) (m : ℕ) (d : m ≡ refusalOf (part bytes (p + 6144))) where
+    pub second-refused : (m ≡ 0 → ⊥) → false ≡ confirmed (judged limit bytes) p
+    unfolding confirmed judged
+    second-refused y =
+        rw (eq-eqb (refusalOf (part bytes p)) 0 (sym e ∙ z), le-leb (p + 6144 + 6144) (length bytes) h, ne-eqb (refusalOf (part bytes (p + 6144))) 0 (λ q. y (d ∙ q)))
+
+    pub both-stand : m ≡ 0 → (s t : Bool) → s ≡ fsync1At bytes p → t ≡ fsync1At bytes (p + 6144) → differ s t ≡ confirmed (judged limit bytes) p
+    unfolding confirmed judged
+    both-stand y s t es et =
+        rw (eq-eqb (refusalOf (part bytes p)) 0 (sym e ∙ z), le-leb (p + 6144 + 6144) (length bytes) h, eq-eqb (refusalOf (part bytes (p + 6144))) 0 (sym d ∙ y))
+        (ap₂ differ es et)
+
+-- ---- places that do not stand
+module _ (bytes : List ℕ) where
+  pub none-passed : {a b : ℕ} → a ≡ b → NoneStands bytes a b
+  none-passed e = record { ahead = omega arith; room = λ p x y. absurd (omega arith); refused = λ p x y. absurd (omega arith) }
+
+  pub one-passed : {b c : ℕ} → b + 1 ≡ c → b + 6144 ≤ length bytes → (refusalOf (part bytes b) ≡ 0 → ⊥) → NoneStands bytes b c
+  one-passed {b} e room bad =
+      record {
+        ahead = omega arith;
+        room = λ p x y. omega arith;
+        refused = λ p x y z. bad (let q : p ≡ b = omega arith in sym (ap (λ (j : ℕ). refusalOf (part bytes j)) q) ∙ z);
+      }
+
+  pub then-passed : {a b c : ℕ} → NoneStands bytes a b → NoneStands bytes b c → NoneStands bytes a c
+  then-passed {a} {b} {c} m n =
+      record {
+        ahead = omega (arith, m .ahead, n .ahead);
+        room = λ p x y. either p (decLe (suc p) b) (m .room p x) (λ z. n .room p z y);
+        refused = λ p x y. either p (decLe (suc p) b) (m .refused p x) (λ z. n .refused p z y);
+      }
+    where
+      either : {Q : Type 0} (p : ℕ) → Dec (suc p ≤ b) → (p < b → Q) → (b ≤ p → Q) → Q
+      either p (yes l) f g = f l
+      either p (no l) f g = g (omega arith)
+
+-- from a and from b the hunt hands back the same
+abbrev pub Same : List ℕ → ℕ → ℕ → Type 0
+Same bytes a b = (limit k : ℕ) → stepAt limit bytes (hunting a k) ≡ stepAt limit bytes (hunting b k)
+
+pub unconfirmed-passed : (bytes : List ℕ) (p : ℕ) → p + 6144 ≤ length bytes → ((limit : ℕ) → confirmed (judged limit bytes) p ≡ false) → Same bytes p (p + 1)
+unconfirmed-passed bytes p room e limit k = hunt-on limit bytes p k room (e limit)
+
+past-in : (bytes : List ℕ) (n a b : ℕ) → b ≡ a + n → NoneStands bytes a b → Same bytes a b
+past-in bytes zero a b e m limit k = ap (λ (p : ℕ). stepAt limit bytes (hunting p k)) (let q : a ≡ b = omega arith in q)
+past-in bytes (suc n) a b e m limit k =
+    let bad = m .refused a (omega arith) (omega arith) in
+    unconfirmed-passed bytes a (m .room a (omega arith) (omega arith)) (λ l. sym (unconfirmed l bytes a (refusalOf (part bytes a)) refl bad)) limit k
+    ∙ past-in bytes n (a + 1) b (omega arith) (record { ahead = omega arith; room = λ i x y. m .room i (omega arith) y; refused = λ i x y. m .refused i (omega arith) y }) limit k
+
+-- past places that do not stand the hunt may go on
+pub past : (bytes : List ℕ) {a b : ℕ} → NoneStands bytes a b → Same bytes a b
+past bytes {a} {b} m = past-in bytes (b - a) a b (omega (arith, m .ahead)) m
+
+-- ---- a frame that reading accepted
+pub frame-read : (bytes : List ℕ) (p : ℕ) (r : Reading) (h : Header) (w s : State) → Reads (part bytes p) r → r .answer ≡ Accepted h → w ≡ s
+    → _≡_ {A = Step} (record { item = Frame p h; table = r .table; walk = w }) (stepWith bytes (frameIn bytes p) s)
+unfolding stepWith tableOf
+frame-read bytes p r h w s reads e q =
+    let a = got-header (part bytes p) r reads h e in
+    let b = got-table (part bytes p) r reads h e in
+    λ i. record { item = Frame p (a i); table = b i; walk = q i }
+
+pub not-refused : (bytes : List ℕ) (p : ℕ) (r : Reading) (n : ℕ) → Reads (part bytes p) r → r .answer ≡ Refused n → refusalOf (part bytes p) ≡ 0 → ⊥
+not-refused bytes p r n reads e z = got-nonzero (part bytes p) r reads n e (got-refused (part bytes p) r reads n e ∙ z)

@@ -1,0 +1,21 @@
+-- Nothing in this file need be believed: clauses between private functions.
+-- Assumes nothing.
+use mathlib.Core.List.{List}
+use mathlib.Core.Path.{_≡_}
+use Prim.Native.Nat.{ℕ, _+_, _≤_, _<_}
+use lib.ListN.{length}
+use Rattle.frame.specs.Rules.{refusalOf}
+use Rattle.walk.specs.Records.{part}
+
+-- no place from a up to b stands: each has its period, and that is refused
+pub record NoneStands (bytes : List ℕ) (a b : ℕ) : Type 0 where
+  pub ahead : a ≤ b
+  pub room : (p : ℕ) → a ≤ p → p < b → p + 6144 ≤ length bytes
+  pub refused : (p : ℕ) → a ≤ p → p < b → refusalOf (part bytes p) ≡ 0 → ⊥
+
+-- in lock at p after k misses, with fewer than the limit, the place is refused with n
+pub record Missed (limit : ℕ) (bytes : List ℕ) (p k n : ℕ) : Type 0 where
+  pub room : p + 6144 ≤ length bytes
+  pub few : k < limit
+  pub number : n ≡ refusalOf (part bytes p)
+  pub refused : n ≡ 0 → ⊥
