@@ -9,7 +9,7 @@ run:
 	@tools/run listing <$(RECORD)
 
 rows:
-	@tools/run rows
+	@for program in rows answers writes; do tools/run $$program || exit 1; done
 
 example: target/example/controller
 	@target/example/controller $(RECORD)

@@ -84,7 +84,7 @@ enum {
     SPINDLEWREN_NO_SUCH_STREAM = 13 /* stream index not below NST */
 };
 
-/* Each returns the refusal number, 0 for accepted; refused, not one byte is written. */
+/* Each returns the refusal number, 0 for accepted; refused, not one byte is written. A pointer may be null where its length is 0. */
 uint8_t spindlewren_read(const uint8_t *frame, size_t frame_len, uint8_t *answer, size_t answer_len);
 uint8_t spindlewren_fic(const uint8_t *frame, size_t frame_len, uint8_t *part, size_t part_len);
 uint8_t spindlewren_stream(const uint8_t *frame, size_t frame_len, size_t i, uint8_t *part, size_t part_len);

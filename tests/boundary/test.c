@@ -167,6 +167,19 @@ static void states(const uint8_t *record, size_t len) {
     }
 }
 
+/* A null pointer with length 0, for the bytes, for the answer and for both: refused with 1; a walk over no record is done where it stands. */
+static void nulls(request *ask, const uint8_t *frame, size_t right) {
+    static const uint8_t done[SPINDLEWREN_WALK] = {0, 0, 0, 0, 0, 0, 0, 7, 2, 1, SPINDLEWREN_IS_DONE, 0, 0, 0, 0, 0, 0, 0, 0, 7};
+    uint8_t out[SPINDLEWREN_ANSWER];
+    memset(out, FILL, sizeof out);
+    if (ask == step) memcpy(out, done, SPINDLEWREN_KIND);
+    hold(guarded(ask, NULL, 0, 0, out, right) == (ask == step ? 0U : 1U), "null bytes", right);
+    if (ask == step) hold(memcmp(out, done, sizeof done) == 0, "a walk over null", right);
+    hold(ask(frame, SPINDLEWREN_FRAME, 0, NULL, 0) == 1, "null answer", right);
+    hold(ask(NULL, 0, 0, NULL, 0) == 1, "null both", right);
+    calls += 2;
+}
+
 int main(void) {
     size_t four_len, damaged_len, noise_len;
     uint8_t answer[SPINDLEWREN_ANSWER];
@@ -182,6 +195,10 @@ int main(void) {
     lengths(fic, four, SPINDLEWREN_PART);
     lengths(stream, four, SPINDLEWREN_PART);
     lengths(step, four, SPINDLEWREN_WALK);
+    nulls(read_frame, four, SPINDLEWREN_ANSWER);
+    nulls(fic, four, SPINDLEWREN_PART);
+    nulls(stream, four, SPINDLEWREN_PART);
+    nulls(step, four, SPINDLEWREN_WALK);
     walked(four, four_len, "tests/listing/four.out");
     walked(damaged, damaged_len, "tests/listing/damaged.out");
     walked(noise, noise_len, "tests/listing/noise.out");

@@ -4,9 +4,14 @@ use mathlib.Core.List.{List, [], _∷_, _++_}
 use mathlib.Core.Path.{_≡_, refl, ap, _∙_}
 use Prim.Native.Nat.{ℕ, zero, suc, _+_}
 use native.Mathlib.Numerals.{add-one}
+use native.Mathlib.Omega.{arith}
 use borrow.Author.Tests.{eq-eqb, ne-eqb}
 use lib.ListN.{length, length-append}
+use Rattle.octets.specs.Stores.{put}
+use Rattle.octets.specs.Words.{split, bytes8}
+use Rattle.octets.proofs.Storing.{put-chain, put-all}
 use Rattle.frame.specs.Writing.{Writes}
+use Rattle.entries.specs.Numbered.{tenBytes}
 use Rattle.entries.specs.Entered.{entryIn, entriesTo, fieldsIn, Entered}
 
 pub entries-more : (b : List ℕ) (n : ℕ) → entriesTo b (n + 1) ≡ entriesTo b n ++ (entryIn b n ∷ [])
@@ -26,3 +31,8 @@ module _ (b main before : List ℕ) where
   entered h after r w =
       let y = eq-eqb (length b) 401 h in
       record { number = w .number ∙ (rw y); output = w .output ∙ (rw y) }
+
+-- two bytes and then a place are an item's ten
+pub ten-stored : (l a b : List ℕ) (kind lost n : ℕ) → length l ≡ 10 → a ≡ put l 0 (kind ∷ lost ∷ []) → b ≡ put a 2 (split bytes8 n) → b ≡ tenBytes kind lost n
+ten-stored l a b kind lost n h p q =
+    put-chain l a b 0 2 (kind ∷ lost ∷ []) (split bytes8 n) p q refl (omega arith) ∙ put-all l (kind ∷ lost ∷ split bytes8 n) (omega arith)

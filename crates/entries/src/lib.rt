@@ -1,13 +1,20 @@
-// The sum and writing on byte slices, for programs in other languages that test and measure them.
+// The sum, writing, relaying and a walk's n-th item on byte slices, for programs in other languages that test and measure them.
+ghost use mathlib.Core.List.{[], _∷_};
 ghost use mathlib.Core.Path.{_≡_};
 ghost use Prim.Native.Nat.{_+_, _*_, _<_};
 ghost use lib.ListN.{length};
 ghost use Rattle.sum.specs.Sum.{sumOf};
+ghost use Rattle.octets.specs.Stores.{put};
 ghost use Rattle.frame.specs.Answers.{tableBy, timestampBy};
+ghost use Rattle.relay.specs.Relaying.{Relays};
+ghost use Rattle.walker.specs.Advance.{itemOf};
+ghost use Rattle.controller.specs.Boundary.{Told};
 ghost use Rattle.entries.specs.Entered.{entryIn, entriesTo, fieldsIn, Entered};
+ghost use Rattle.entries.specs.Numbered.{tenBytes, itemBytes};
 use frame::Fields;
 use frame::Stream;
 use frame::Timestamp;
+use walk::Item;
 
 fn timestamp(sort: u8, n: u32) -> Timestamp
     ensures { λ r. ⌜ r ≡ timestampBy sort n ⌝ }
@@ -82,4 +89,53 @@ pub extern "C" fn spindlewren_write(given: &[u8], main: &[u8], out: &mut [u8]) -
         return 1;
     }
     writing::write(fields(given), main, out)
+}
+
+// Reading's refusal, then 1 for an output of another length; otherwise the frame is written again into the output.
+#[no_mangle]
+pub extern "C" fn spindlewren_relay(frame: &[u8], out: &mut [u8]) -> u8
+    ensures { λ r. ⌜ Relays (now (frame .entry)) (now (out .entry)) (now (out .exit)) r ⌝ }
+{
+    relay::relay(frame, out)
+}
+
+fn put_two(out: &mut [u8], kind: u8, lost: u8)
+    requires { ⌜ length (now out) ≡ 10 ⌝ }
+    ensures { λ _. ⌜ now (out .exit) ≡ put (now (out .entry)) 0 (kind ∷ lost ∷ []) ⌝ }
+{
+    out[0] = kind;
+    out[1] = lost;
+}
+
+fn put_ten(out: &mut [u8], kind: u8, lost: u8, n: usize)
+    requires { ⌜ length (now out) ≡ 10 ⌝ }
+    ensures { λ _. ⌜ now (out .exit) ≡ tenBytes kind lost n ⌝ }
+{
+    put_two(out, kind, lost);
+    octets::put8(out, 2, n);
+}
+
+fn put_item(out: &mut [u8], item: Item)
+    requires { ⌜ length (now out) ≡ 10 ⌝ }
+    ensures { λ _. ⌜ now (out .exit) ≡ itemBytes item ⌝ }
+{
+    match item {
+        Item::Frame(p, _) => put_ten(out, 0, 0, p),
+        Item::Lost(p, n) => put_ten(out, 1, n, p),
+        Item::Done(p) => put_ten(out, 2, 0, p),
+    }
+}
+
+// The n-th item of the record's walk, from 0 on, in ten bytes; answer bytes of another length are refused with 1.
+#[no_mangle]
+pub extern "C" fn spindlewren_nth(record: &[u8], n: usize, answer: &mut [u8]) -> u8
+    ensures { λ r. ⌜ Told 10 0 (itemBytes (itemOf (now («record» .entry)) n)) (now (answer .entry)) (now (answer .exit)) r ⌝ }
+{
+    if answer.len() != 10 {
+        return 1;
+    }
+    let step = walker::nth(record, n);
+    let item = step.item;
+    put_item(answer, item);
+    0
 }

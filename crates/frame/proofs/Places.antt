@@ -7,7 +7,7 @@ use native.Mathlib.Omega.{arith}
 use lib.ListN.{getD}
 use Rattle.octets.specs.Choice.{placeIn}
 use Rattle.octets.proofs.Deciding.{at-place}
-use Rattle.sum.proofs.Table.{same}
+use Rattle.linear.proofs.Row.{same}
 use Rattle.frame.specs.Frame.{statuses, statusBy, fsyncs, fsyncBy}
 
 -- the level of a level's status byte, and which a sync word is

@@ -1,13 +1,9 @@
-// Bench figures and published check values, run: a line for each, with the result, what it should be, and whether it is.
-mod build;
+// Published check values of the sum and bench figures of reading, run.
 mod expected;
 mod frames;
-mod line;
 mod sums;
-mod writes;
 
 fn main() {
     sums::rows();
     frames::rows();
-    writes::rows();
 }

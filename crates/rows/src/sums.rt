@@ -2,7 +2,7 @@
 ghost use mathlib.Core.Path.{_≡_};
 ghost use lib.ListN.{length};
 use crate::expected::SUMS;
-use crate::line;
+use workbench::line;
 
 // Bytes with no order in their bits: 7, 38, 69, ..
 fn pattern() -> [u8; 300]
@@ -22,7 +22,7 @@ fn prefix(bytes: &[u8], n: usize, expected: u16) {
         let result = sum::sum(&bytes[..n]);
         line::text(b"sum of the pattern's first ");
         line::number(n);
-        line::sum(result, expected);
+        line::sum(b"", result, expected);
     }
 }
 
@@ -36,10 +36,12 @@ fn prefixes(bytes: &[u8]) {
 }
 
 pub fn rows() {
-    line::text(b"sum of 123456789");
-    line::sum(sum::sum(b"123456789"), 0xd64e);
-    line::text(b"residue of 123456789");
-    line::sum(!sum::sum(b"123456789\xd6\x4e"), 0x1d0f);
+    line::sum(b"sum of 123456789", sum::sum(b"123456789"), 0xd64e);
+    line::sum(
+        b"residue of 123456789",
+        !sum::sum(b"123456789\xd6\x4e"),
+        0x1d0f,
+    );
     let bytes = pattern();
     prefixes(&bytes);
 }

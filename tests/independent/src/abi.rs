@@ -8,6 +8,7 @@ pub const ANSWER: usize = 402;
 pub const PART: usize = 4;
 pub const WALK: usize = 20;
 pub const FIELDS: usize = 401;
+pub const ITEM: usize = 10;
 
 /// The kinds of item.
 pub const FRAME_ITEM: u8 = 0;
@@ -46,6 +47,14 @@ extern "C" {
         main_len: usize,
         out: *mut u8,
         out_len: usize,
+    ) -> u8;
+    fn spindlewren_relay(frame: *const u8, frame_len: usize, out: *mut u8, out_len: usize) -> u8;
+    fn spindlewren_nth(
+        record: *const u8,
+        record_len: usize,
+        n: usize,
+        answer: *mut u8,
+        answer_len: usize,
     ) -> u8;
 }
 
@@ -106,6 +115,22 @@ pub fn write(fields: &[u8], main: &[u8], out: &mut [u8]) -> u8 {
     }
 }
 
+pub fn relay(frame: &[u8], out: &mut [u8]) -> u8 {
+    unsafe { spindlewren_relay(frame.as_ptr(), frame.len(), out.as_mut_ptr(), out.len()) }
+}
+
+pub fn nth(record: &[u8], n: usize, answer: &mut [u8]) -> u8 {
+    unsafe {
+        spindlewren_nth(
+            record.as_ptr(),
+            record.len(),
+            n,
+            answer.as_mut_ptr(),
+            answer.len(),
+        )
+    }
+}
+
 pub fn answer_bytes(reading: &Reading) -> Vec<u8> {
     let header = &reading.header;
     let mut bytes = vec![
@@ -162,13 +187,16 @@ pub fn state_bytes(state: State) -> Vec<u8> {
 }
 
 pub fn walk_bytes(item: &Item, state: State) -> Vec<u8> {
+    [state_bytes(state), item_bytes(item)].concat()
+}
+
+pub fn item_bytes(item: &Item) -> Vec<u8> {
     let (kind, number, place) = match item {
         Item::Frame(place, _) => (FRAME_ITEM, 0, *place),
         Item::Lost(place, number) => (LOST_ITEM, *number, *place),
         Item::Done(place) => (DONE_ITEM, 0, *place),
     };
-    let mut bytes = state_bytes(state);
-    bytes.extend([kind, number]);
+    let mut bytes = vec![kind, number];
     bytes.extend((place as u64).to_be_bytes());
     bytes
 }

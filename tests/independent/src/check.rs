@@ -8,14 +8,17 @@ use crate::generate::frames::frame_case;
 use crate::generate::records::{record_case, Run};
 use crate::generate::writings::{writing_case, Writing};
 use crate::generate::{Random, Sort};
+use crate::relay::relay;
 use crate::sum::sum;
-use crate::walk::{stands, step, State, MOST_MISSES};
+use crate::walk::{nth, stands, step, State, MOST_MISSES};
 use crate::writing::{write, PADDING};
 use std::fmt::Debug;
 use std::ops::AddAssign;
 
 /// Random bytes kept on both sides of each lent buffer.
 const GUARD: usize = 16;
+/// How far beyond the end of a walk an item is asked for.
+const MOST_BEYOND: usize = 2000;
 
 pub struct Mismatch {
     pub kind: String,
@@ -86,6 +89,7 @@ impl Case<'_> {
         let answer = self.read(&frame, reading)?;
         self.fic(&frame)?;
         self.streams(&frame)?;
+        self.relayed(&frame)?;
         match reading {
             Ok(reading) => self.written_again(&frame, &reading, &answer),
             Err(_) => Ok(()),
@@ -132,6 +136,17 @@ impl Case<'_> {
         if accepted {
             self.count(13);
         }
+        Ok(())
+    }
+
+    /// Into an output of the right length, and now and then of another: reading's number comes first.
+    fn relayed(&mut self, frame: &[u8]) -> Checked<()> {
+        let other = self.random.pick(&[0, 1, FRAME - 1, FRAME + 1, 2 * FRAME]);
+        let length = if self.random.one_in(16) { other } else { FRAME };
+        let mut out = vec![0; length];
+        let number = relay(frame, &mut out);
+        let expected = if number == 0 { Ok(out) } else { Err(number) };
+        self.fresh("relay", length, expected, |out| abi::relay(frame, out))?;
         Ok(())
     }
 
@@ -211,7 +226,8 @@ impl Case<'_> {
         let record = record_case(&mut self.random);
         self.kind = format!("record, {}", record.kind);
         self.tally.records += 1;
-        let frames = self.walk(&record.bytes)?;
+        let (frames, items) = self.walk(&record.bytes)?;
+        self.items(&record.bytes, items)?;
         for _ in 0..8 {
             self.any_state(&record.bytes)?;
         }
@@ -221,10 +237,11 @@ impl Case<'_> {
         }
     }
 
-    /// The whole walk and one step more; the places of its frames.
-    fn walk(&mut self, record: &[u8]) -> Checked<Vec<usize>> {
+    /// The whole walk and one step more; the places of its frames, and how many items it has.
+    fn walk(&mut self, record: &[u8]) -> Checked<(Vec<usize>, usize)> {
         let mut walk = vec![0; abi::WALK];
         let mut frames = Vec::new();
+        let mut items = 0;
         let mut refused_in_a_row = 0;
         loop {
             let before = abi::state_of(&walk);
@@ -233,14 +250,28 @@ impl Case<'_> {
             self.tally.items[usize::from(kind)] += 1;
             if kind == abi::DONE_ITEM {
                 self.step(record, walk.clone(), abi::state_of(&walk))?;
-                return Ok(frames);
+                return Ok((frames, items));
             }
+            items += 1;
             if kind == abi::FRAME_ITEM {
                 frames.push(place);
             }
             refused_in_a_row = (refused_in_a_row + 1) * usize::from(kind == abi::LOST_ITEM);
             self.one_item_a_period(before, place, refused_in_a_row, &walk)?;
         }
+    }
+
+    /// Items by their number: the first, any, the last, and some beyond the end.
+    fn items(&mut self, record: &[u8], items: usize) -> Checked<()> {
+        let any = self.random.within(0, items);
+        let beyond = items + self.random.within(1, MOST_BEYOND);
+        for n in [0, any, items.saturating_sub(1), items, beyond] {
+            let expected = Ok(abi::item_bytes(&nth(record, n)));
+            self.answer(&format!("item {n}"), abi::ITEM, expected, |answer| {
+                abi::nth(record, n, answer)
+            })?;
+        }
+        Ok(())
     }
 
     fn step(&mut self, record: &[u8], walk: Vec<u8>, state: State) -> Checked<Vec<u8>> {

@@ -7,6 +7,7 @@ pub mod check;
 pub mod frame;
 pub mod generate;
 pub mod listing;
+pub mod relay;
 pub mod sum;
 pub mod walk;
 pub mod writing;

@@ -34,6 +34,13 @@ pub fn step(record: &[u8], state: State) -> (Item, State) {
     }
 }
 
+/// The item that the step after `n` steps finds, from the beginning of the record.
+pub fn nth(record: &[u8], n: usize) -> Item {
+    let begun = State::default();
+    let state = (0..n).fold(begun, |state, _| step(record, state).1);
+    step(record, state).0
+}
+
 /// The place's 6,144 bytes exist and the reading accepts them.
 pub fn stands(record: &[u8], place: usize) -> bool {
     period(record, place).is_some_and(|frame| judge(frame) == 0)

@@ -4,8 +4,9 @@ use independent::frame::{
     fic_part, judge, main_stream_part, read, stream_part, Stream, Timestamp, EMPTY, FRAME, STATUS,
 };
 use independent::listing::listing;
+use independent::relay::relay;
 use independent::sum::sum;
-use independent::walk::{step, Item, State};
+use independent::walk::{nth, step, Item, State};
 use independent::writing::{write, Fields};
 
 /// NST 0, FICF 0 and nothing unusual.
@@ -115,6 +116,21 @@ fn wrong_main_sum_raises_the_level_to_2() {
     }
 }
 
+/// A clean frame comes out as it went in; a wrong main-stream sum comes out right, with the level raised.
+#[test]
+fn relayed() {
+    let clean = written(&bare()).unwrap();
+    let mut out = vec![0; FRAME];
+    assert_eq!((relay(&clean, &mut out), &out), (0, &clean));
+    let mut damaged = clean.clone();
+    damaged[12] ^= 1;
+    let raised = written(&Fields { level: 2, ..bare() }).unwrap();
+    assert_eq!((relay(&damaged, &mut out), &out), (0, &raised));
+    assert_eq!(relay(&clean, &mut out[1..]), 1);
+    assert_eq!(relay(&[0; FRAME], &mut out[1..]), 2);
+    assert_eq!(out, raised);
+}
+
 #[test]
 fn limits() {
     let longest = written(&with_lengths(bare(), &[684, 80, 0])).unwrap();
@@ -156,6 +172,17 @@ fn listing_of_the_paper() {
     assert_eq!(listing(&record), lines);
     assert_eq!(listing(&vec![0; 61_441]), "too long\n");
     assert_eq!(listing(&[]), "place kind code level\nend 0\n");
+}
+
+#[test]
+fn items_by_number() {
+    let mut record = record();
+    record[2 * FRAME + 1] = 0;
+    assert!(matches!(nth(&record, 1), Item::Frame(FRAME, _)));
+    assert_eq!(nth(&record, 2), Item::Lost(2 * FRAME, 2));
+    for n in [4, 5, 1000] {
+        assert_eq!(nth(&record, n), Item::Done(4 * FRAME));
+    }
 }
 
 fn frame_places(record: &[u8]) -> Vec<usize> {

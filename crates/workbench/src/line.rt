@@ -1,11 +1,15 @@
-// The parts of a line.
+// A row: what was tried, the result, what it should be, and whether it is.
 use libc::STDOUT_FILENO;
 
-pub fn text(words: &[u8]) {
+pub fn text(words: &[u8])
+    ensures { λ _. ⊤ₛ }
+{
     io::write_all(STDOUT_FILENO, words);
 }
 
-pub fn number(n: usize) {
+pub fn number(n: usize)
+    ensures { λ _. ⊤ₛ }
+{
     io::print_decimal(STDOUT_FILENO, n as u64);
 }
 
@@ -17,8 +21,11 @@ fn verdict(right: bool) {
     }
 }
 
-// The end of a line on a sum.
-pub fn sum(result: u16, expected: u16) {
+// A row on a sum; what `text` and `number` printed before it stands at its beginning.
+pub fn sum(tried: &[u8], result: u16, expected: u16)
+    ensures { λ _. ⊤ₛ }
+{
+    text(tried);
     text(b": ");
     io::print_hex(STDOUT_FILENO, result as u64, 4);
     text(b" ");
@@ -26,8 +33,11 @@ pub fn sum(result: u16, expected: u16) {
     verdict(result == expected);
 }
 
-// The end of a line on any other number.
-pub fn plain(result: usize, expected: usize) {
+// A row on any other number.
+pub fn plain(tried: &[u8], result: usize, expected: usize)
+    ensures { λ _. ⊤ₛ }
+{
+    text(tried);
     text(b": ");
     number(result);
     text(b" ");

@@ -1,7 +1,7 @@
 use borrow.Author.Needs.{needs}
 use lib.ListN.{length-take}
-use Rattle.rows.proofs.writes.write.Statement.{statement}
-use Rattle.rows.proofs.writes.write.Tie as tie
+use Rattle.writes.proofs.write.Statement.{statement}
+use Rattle.writes.proofs.write.Tie as tie
 
 slice-aggregate-write : tie.Need-slice-aggregate-write
 slice-aggregate-write c = simp length-take (search needs)

@@ -6,23 +6,12 @@ use Prim.Native.Nat.{ℕ, zero, suc, _*_, _/_, _%_, _^_, _<_}
 use native.Mathlib.Nat.{add-zero, le-refl, mod-lt, one-mul, zero-mul}
 use native.Mathlib.Numerals.{one-add}
 use native.Mathlib.Omega.{arith}
-use lib.Arith.{bin-ind, lt-one}
-use lib.Bits.{bitXor, xor-comm, xor-self, xor-zero-r, xor-add-and, xor-block, xor-shr, xor-mod, xor-shifted}
+use lib.Arith.{lt-one}
+use lib.Bits.{bitXor, xor-self, xor-zero-r, xor-block, xor-shr, xor-mod, xor-shifted}
 use lib.ListN.{getD}
 use lib.Pow.{pow-pos, shr-lt, split}
-use Rattle.sum.proofs.Table.{row, same}
-
--- by halves; the last digits agree, for a sum and its exclusive or are both odd or both even
-xor-assoc : (a b c : ℕ) → bitXor (bitXor a b) c ≡ bitXor a (bitXor b c)
-xor-assoc =
-    bin-ind (λ (n : ℕ). (b c : ℕ) → bitXor (bitXor n b) c ≡ bitXor n (bitXor b c)) (λ b c. refl)
-    (λ n ih b c.
-    let half : bitXor (bitXor n b) c / 2 ≡ bitXor n (bitXor b c) / 2 =
-    rw (xor-shr (bitXor n b) c 1, xor-shr n b 1, xor-shr n (bitXor b c) 1, xor-shr b c 1) (ih (b / 2) (c / 2)) in
-    omega (arith, xor-add-and (bitXor n b) c, xor-add-and n b, xor-add-and n (bitXor b c), xor-add-and b c))
-
-xor-cross : (a b c d : ℕ) → bitXor (bitXor a b) (bitXor c d) ≡ bitXor (bitXor a c) (bitXor b d)
-xor-cross a b c d = rw (xor-assoc a b (bitXor c d), ← xor-assoc b c d, xor-comm b c, xor-assoc c b d, ← xor-assoc a c (bitXor b d))
+use Rattle.linear.proofs.Row.{row, same}
+use Rattle.linear.proofs.Xor.{xor-cross}
 
 -- f takes the exclusive or of its domain, by, to that of numbers
 pub record Linear {A : Type 0} (by : A → A → A) (f : A → ℕ) : Type 0 where

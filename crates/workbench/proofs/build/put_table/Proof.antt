@@ -2,8 +2,8 @@ use mathlib.Core.Path.{_≡_}
 use Prim.Native.Nat.{_-_}
 use borrow.Author.Needs.{needs}
 use lib.ListN.{length}
-use Rattle.rows.proofs.build.put_table.Statement.{statement}
-use Rattle.rows.proofs.build.put_table.Tie as tie
+use Rattle.workbench.proofs.build.put_table.Statement.{statement}
+use Rattle.workbench.proofs.build.put_table.Tie as tie
 
 abbrev Inv-loop : tie.InvT-loop
 Inv-loop frame₀ g n i₀ frame i = length frame₀ ≡ length frame
@@ -11,83 +11,63 @@ Inv-loop frame₀ g n i₀ frame i = length frame₀ ≡ length frame
 abbrev μ-loop : tie.MeasureT-loop
 μ-loop frame₀ g n i₀ frame i = n - i
 
--- src/build.rt:71:5
 loop-holds : tie.Need-loop-holds Inv-loop μ-loop
 loop-holds c = search needs
 
--- src/build.rt:72:13
 stl-requires : tie.Need-stl-requires Inv-loop μ-loop
 stl-requires c κs = search needs
 
--- src/build.rt:73:22
 add-word : tie.Need-add-word Inv-loop μ-loop
 add-word c = search needs
 
--- src/build.rt:73:21
 cast-word : tie.Need-cast-word Inv-loop μ-loop
 cast-word c = search needs
 
--- src/build.rt:73:20
 mul-word : tie.Need-mul-word Inv-loop μ-loop
 mul-word c = search needs
 
--- src/build.rt:73:55
 mul-word-2 : tie.Need-mul-word-2 Inv-loop μ-loop
 mul-word-2 c = search needs
 
--- src/build.rt:73:20
 add-word-2 : tie.Need-add-word-2 Inv-loop μ-loop
 add-word-2 c = search needs
 
--- src/build.rt:73:68
 mul-word-3 : tie.Need-mul-word-3 Inv-loop μ-loop
 mul-word-3 c = search needs
 
--- src/build.rt:73:20
 add-word-3 : tie.Need-add-word-3 Inv-loop μ-loop
 add-word-3 c = search needs
 
--- src/build.rt:73:80
 cast-word-2 : tie.Need-cast-word-2 Inv-loop μ-loop
 cast-word-2 c = search needs
 
--- src/build.rt:73:20
 add-word-4 : tie.Need-add-word-4 Inv-loop μ-loop
 add-word-4 c = search needs
 
--- src/build.rt:74:26
 cast-put4 : tie.Need-cast-put4 Inv-loop μ-loop
 cast-put4 c = search needs
 
--- src/build.rt:74:25
 mul-put4 : tie.Need-mul-put4 Inv-loop μ-loop
 mul-put4 c = search needs
 
--- src/build.rt:74:21
 add-put4 : tie.Need-add-put4 Inv-loop μ-loop
 add-put4 c = search needs
 
--- src/build.rt:74:9
 put4-requires : tie.Need-put4-requires Inv-loop μ-loop
 put4-requires c κs = search needs
 
--- src/build.rt:75:9
 add-i : tie.Need-add-i Inv-loop μ-loop
 add-i c = search needs
 
--- src/build.rt:71:5
 loop-less : tie.Need-loop-less Inv-loop μ-loop
 loop-less c = search needs
 
--- src/build.rt:71:5
 loop-again : tie.Need-loop-again Inv-loop μ-loop
 loop-again c = search needs
 
--- src/build.rt:68:1
 same-length : tie.Need-same-length Inv-loop μ-loop
 same-length c = search needs
 
--- src/build.rt:68:1
 returns : tie.Need-returns Inv-loop μ-loop
 returns c = search needs
 

@@ -1,7 +1,7 @@
 use borrow.Author.Needs.{needs}
 use lib.ListN.{length-take}
-use Rattle.rows.proofs.writes.lent.Statement.{statement}
-use Rattle.rows.proofs.writes.lent.Tie as tie
+use Rattle.writes.proofs.lent.Statement.{statement}
+use Rattle.writes.proofs.lent.Tie as tie
 
 slice-aggregate-write : tie.Need-slice-aggregate-write
 slice-aggregate-write c = simp length-take (search needs)
@@ -15,7 +15,6 @@ lent-spec =
     slice-aggregate-write
     (λ c κs. search needs)
     (λ c. search needs)
-    (λ c κs. search needs)
     (λ c κs. search needs)
     (λ c. search needs)
     (λ c κs. search needs)

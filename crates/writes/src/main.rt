@@ -1,10 +1,10 @@
-// Writing: a row for each refusal, for two at once, and for what is written.
-use crate::build::put_main;
-use crate::build::sum_between;
-use crate::line;
+// Bench figures of writing, run: a row for each refusal, for two at once, and for what is written.
 use frame::Fields;
 use frame::Stream;
 use frame::Timestamp;
+use workbench::build::put_main;
+use workbench::build::sum_between;
+use workbench::line;
 
 fn entry(scid: u8, sad: u16, tpl: u8, stl: u16) -> Stream {
     Stream {
@@ -39,6 +39,17 @@ fn plain() -> Fields {
     fields(Timestamp::Absent)
 }
 
+// The same but for these; plain() is with(0, 17, 5, 1, 1).
+fn with(level: u8, fct: u8, fp: u8, mid: u8, count: usize) -> Fields {
+    let mut x = plain();
+    x.level = level;
+    x.fct = fct;
+    x.fp = fp;
+    x.mid = mid;
+    x.count = count;
+    x
+}
+
 // FICF 0 and n streams, the first three of these STLs.
 fn streams(n: usize, first: u16, second: u16, third: u16) -> Fields {
     let mut x = plain();
@@ -64,8 +75,7 @@ fn refusal(given: &[u8], x: Fields, n: usize, expected: usize) {
     let mut out = [0u8; 6144];
     let result = write(x, n, &mut out);
     line::text(b"writing, ");
-    line::text(given);
-    line::plain(result as usize, expected);
+    line::plain(given, result as usize, expected);
 }
 
 // Refusal 1, for n bytes of output.
@@ -74,8 +84,7 @@ fn lent(given: &[u8], x: Fields, n: usize) {
     if n <= bytes.len() {
         let result = write(x, 288, &mut bytes[..n]);
         line::text(b"writing, ");
-        line::text(given);
-        line::plain(result as usize, 1);
+        line::plain(given, result as usize, 1);
     }
 }
 
@@ -85,61 +94,74 @@ fn wide(given: &[u8], s: Stream) {
     refusal(given, x, 288, 12);
 }
 
-fn widths() {
-    let mut x = plain();
-    x.level = 4;
-    refusal(b"level 4", x, 288, 12);
-    x = plain();
-    x.fp = 8;
-    refusal(b"FP 8", x, 288, 12);
-    x = plain();
-    x.mid = 4;
-    refusal(b"MID 4", x, 288, 12);
+fn lengths() {
+    lent(b"6143 bytes of output", plain(), 6143);
+    lent(b"6145 bytes of output", plain(), 6145);
+}
+
+fn wide_headers() {
+    refusal(b"level 4", with(4, 17, 5, 1, 1), 288, 12);
+    refusal(b"FP 8", with(0, 17, 8, 1, 1), 288, 12);
+    refusal(b"MID 4", with(0, 17, 5, 4, 1), 288, 12);
+}
+
+fn wide_entries() {
     wide(b"SCID 64", entry(64, 54, 34, 24));
     wide(b"SAD 1024", entry(1, 1024, 34, 24));
     wide(b"TPL 64", entry(1, 54, 64, 24));
     wide(b"STL 1024", entry(1, 54, 34, 1024));
+}
+
+fn wide_time() {
     let x = fields(Timestamp::Time(0xffffff));
     refusal(b"the time ffffff", x, 288, 12);
 }
 
 fn alone() {
-    lent(b"6143 bytes of output", plain(), 6143);
-    lent(b"6145 bytes of output", plain(), 6145);
-    widths();
-    let mut x = plain();
-    x.count = 65;
-    refusal(b"count 65", x, 288, 5);
-    x = plain();
-    x.fct = 250;
-    refusal(b"FCT 250", x, 288, 7);
-    x = streams(1, 685, 0, 0);
+    refusal(b"count 65", with(0, 17, 5, 1, 65), 288, 5);
+    refusal(b"FCT 250", with(0, 250, 5, 1, 1), 288, 7);
+    let mut x = streams(1, 685, 0, 0);
     refusal(b"STL 685", x, 5480, 8);
     x = streams(2, 383, 382, 0);
     refusal(b"2 streams, FICF 0, STL total 765", x, 6120, 10);
+}
+
+fn main_lengths() {
     refusal(b"main stream one byte short", plain(), 287, 11);
     refusal(b"main stream one byte long", plain(), 289, 11);
 }
 
 fn pairs() {
-    let mut x = plain();
-    x.level = 4;
-    lent(b"6143 bytes of output and level 4", x, 6143);
-    x = plain();
-    x.count = 65;
+    lent(
+        b"6143 bytes of output and level 4",
+        with(4, 17, 5, 1, 1),
+        6143,
+    );
+    let mut x = with(0, 17, 5, 1, 65);
     x.table[63] = entry(1, 1024, 34, 24);
     refusal(b"count 65 and entry 63 with SAD 1024", x, 288, 12);
     x.table[63] = entry(1, 1023, 34, 24);
     refusal(b"count 65 and entry 63 with SAD 1023", x, 288, 5);
     x.fct = 250;
     refusal(b"count 65 and FCT 250", x, 288, 5);
-    x = streams(1, 685, 0, 0);
+}
+
+fn pairs_of_streams() {
+    let mut x = streams(1, 685, 0, 0);
     x.fct = 250;
     refusal(b"FCT 250 and STL 685", x, 5480, 7);
-    x = streams(2, 685, 80, 0);
-    refusal(b"STL 685 and 80, so that FL is 1533", x, 6120, 8);
-    x = streams(2, 383, 382, 0);
-    refusal(b"FL 1533 and main stream one byte short", x, 6119, 10);
+    refusal(
+        b"STL 685 and 80, so that FL is 1533",
+        streams(2, 685, 80, 0),
+        6120,
+        8,
+    );
+    refusal(
+        b"FL 1533 and main stream one byte short",
+        streams(2, 383, 382, 0),
+        6119,
+        10,
+    );
 }
 
 // A frame that is written, and accepted by reading.
@@ -147,20 +169,20 @@ fn accepted(given: &[u8], x: Fields, n: usize) {
     let mut out = [0u8; 6144];
     let result = write(x, n, &mut out);
     line::text(b"writing, ");
-    line::text(given);
-    line::plain(result as usize, 0);
-    line::text(b"reading it");
-    line::plain(reading::judge(&out) as usize, 0);
+    line::plain(given, result as usize, 0);
+    line::plain(b"reading it", reading::judge(&out) as usize, 0);
 }
 
 fn written() {
     let mut x = plain();
     x.table[1] = entry(255, 54, 34, 1023);
     accepted(b"count 1 and entry 1 with SCID 255 and STL 1023", x, 288);
-    x = streams(3, 255, 255, 254);
-    accepted(b"3 streams, FICF 0, STL total 764", x, 6112);
-    x = streams(0, 0, 0, 0);
-    accepted(b"no stream, FICF 0", x, 0);
+    accepted(
+        b"3 streams, FICF 0, STL total 764",
+        streams(3, 255, 255, 254),
+        6112,
+    );
+    accepted(b"no stream, FICF 0", streams(0, 0, 0, 0), 0);
 }
 
 // A refused writing leaves the output as it was: byte i is i mod 251.
@@ -168,26 +190,21 @@ fn kept(given: &[u8], x: Fields, n: usize) {
     let mut out = [0u8; 6144];
     put_main(&mut out, 0, 6144);
     line::text(b"sum of the output before writing refused for ");
-    line::text(given);
-    line::sum(sum::sum(&out), 0x4bd7);
+    line::sum(given, sum::sum(&out), 0x4bd7);
     write(x, n, &mut out);
-    line::text(b"sum of it after");
-    line::sum(sum::sum(&out), 0x4bd7);
+    line::sum(b"sum of it after", sum::sum(&out), 0x4bd7);
 }
 
 fn refused() {
-    let mut x = plain();
-    x.level = 4;
-    kept(b"level 4", x, 288);
-    x = streams(2, 383, 382, 0);
-    kept(b"FL 1533", x, 6120);
+    kept(b"level 4", with(4, 17, 5, 1, 1), 288);
+    kept(b"FL 1533", streams(2, 383, 382, 0), 6120);
     kept(b"main stream one byte short", plain(), 287);
 }
 
 fn prefix(bytes: &[u8], n: usize, expected: u16) {
     line::text(b"sum of the written frame's first ");
     line::number(n);
-    line::sum(sum_between(bytes, 0, n), expected);
+    line::sum(b"", sum_between(bytes, 0, n), expected);
 }
 
 // The whole frame's sum takes in the two sums inside, so it is the same for every header and main stream of these lengths:
@@ -195,8 +212,7 @@ fn prefix(bytes: &[u8], n: usize, expected: u16) {
 fn plain_frame() {
     let mut out = [0u8; 6144];
     let result = write(plain(), 288, &mut out);
-    line::text(b"writing, one stream");
-    line::plain(result as usize, 0);
+    line::plain(b"writing, one stream", result as usize, 0);
     prefix(&out, 14, 0x9c44);
     prefix(&out, 304, 0x5287);
     prefix(&out, 6144, 0x02d0);
@@ -221,16 +237,21 @@ fn full() -> Fields {
 fn full_frame() {
     let mut out = [0u8; 6144];
     let result = write(full(), 536, &mut out);
-    line::text(b"writing, two streams and a time");
-    line::plain(result as usize, 0);
+    line::plain(b"writing, two streams and a time", result as usize, 0);
     prefix(&out, 18, 0x43ac);
     prefix(&out, 556, 0xdb70);
     prefix(&out, 6144, 0x06ed);
 }
 
-pub fn rows() {
+fn main() {
+    lengths();
+    wide_headers();
+    wide_entries();
+    wide_time();
     alone();
+    main_lengths();
     pairs();
+    pairs_of_streams();
     written();
     refused();
     plain_frame();

@@ -2,8 +2,8 @@ use mathlib.Core.Path.{_≡_}
 use Prim.Native.Nat.{_-_}
 use borrow.Author.Needs.{needs}
 use lib.ListN.{length}
-use Rattle.rows.proofs.build.put_main.Statement.{statement}
-use Rattle.rows.proofs.build.put_main.Tie as tie
+use Rattle.workbench.proofs.build.put_main.Statement.{statement}
+use Rattle.workbench.proofs.build.put_main.Tie as tie
 
 abbrev Inv-loop : tie.InvT-loop
 Inv-loop frame₀ start end i₀ frame i = length frame₀ ≡ length frame
@@ -11,35 +11,27 @@ Inv-loop frame₀ start end i₀ frame i = length frame₀ ≡ length frame
 abbrev μ-loop : tie.MeasureT-loop
 μ-loop frame₀ start end i₀ frame i = end - i
 
--- src/build.rt:102:5
 loop-holds : tie.Need-loop-holds Inv-loop μ-loop
 loop-holds c = search needs
 
--- src/build.rt:103:24
 cast-put1 : tie.Need-cast-put1 Inv-loop μ-loop
 cast-put1 c = search needs
 
--- src/build.rt:103:9
 put1-requires : tie.Need-put1-requires Inv-loop μ-loop
 put1-requires c κs = search needs
 
--- src/build.rt:104:9
 add-i : tie.Need-add-i Inv-loop μ-loop
 add-i c = search needs
 
--- src/build.rt:102:5
 loop-less : tie.Need-loop-less Inv-loop μ-loop
 loop-less c = search needs
 
--- src/build.rt:102:5
 loop-again : tie.Need-loop-again Inv-loop μ-loop
 loop-again c = search needs
 
--- src/build.rt:100:1
 same-length : tie.Need-same-length Inv-loop μ-loop
 same-length c = search needs
 
--- src/build.rt:100:1
 returns : tie.Need-returns Inv-loop μ-loop
 returns c = search needs
 

@@ -1,7 +1,7 @@
 use Prim.Native.Nat.{_+_, _-_, _*_, _≤_}
 use borrow.Author.Needs.{needs}
-use Rattle.rows.proofs.build.words.Statement.{statement}
-use Rattle.rows.proofs.build.words.Tie as tie
+use Rattle.workbench.proofs.build.words.Statement.{statement}
+use Rattle.workbench.proofs.build.words.Tie as tie
 
 abbrev Inv-loop : tie.InvT-loop
 Inv-loop g n words₀ i₀ words i = (i ≤ n) × (words ≤ 32 + 131070 * i)
@@ -9,43 +9,33 @@ Inv-loop g n words₀ i₀ words i = (i ≤ n) × (words ≤ 32 + 131070 * i)
 abbrev μ-loop : tie.MeasureT-loop
 μ-loop g n words₀ i₀ words i = n - i
 
--- src/build.rt:82:9
 fic-words-requires : tie.Need-fic-words-requires Inv-loop μ-loop
 fic-words-requires c κs = search needs
 
--- src/build.rt:84:5
 loop-holds : tie.Need-loop-holds Inv-loop μ-loop
 loop-holds c = search needs
 
--- src/build.rt:85:13
 stl-requires : tie.Need-stl-requires Inv-loop μ-loop
 stl-requires c κs = search needs
 
--- src/build.rt:86:23
 cast-words : tie.Need-cast-words Inv-loop μ-loop
 cast-words c = search needs
 
--- src/build.rt:86:18
 mul-words : tie.Need-mul-words Inv-loop μ-loop
 mul-words c = search needs
 
--- src/build.rt:86:9
 add-words : tie.Need-add-words Inv-loop μ-loop
 add-words c = search needs
 
--- src/build.rt:87:9
 add-i : tie.Need-add-i Inv-loop μ-loop
 add-i c = search needs
 
--- src/build.rt:84:5
 loop-less : tie.Need-loop-less Inv-loop μ-loop
 loop-less c = search needs
 
--- src/build.rt:84:5
 loop-again : tie.Need-loop-again Inv-loop μ-loop
 loop-again c = search needs
 
--- src/build.rt:80:1
 returns : tie.Need-returns Inv-loop μ-loop
 returns c = search needs
 

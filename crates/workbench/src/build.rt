@@ -1,5 +1,8 @@
-// Real frames for the rows that are run.
+// Frames, right and wrong.
 ghost use Prim.Native.Nat.{_≤_};
+use frame::Answer;
+use frame::Header;
+use frame::Timestamp;
 
 // What a frame is built from; the FL is the formula's plus `longer`, the sums are the right ones plus what is said.
 pub struct Given {
@@ -18,7 +21,9 @@ pub struct Given {
 }
 
 // Level 0, FSYNC0, FCT 17, the FIC of mode I, one stream of STL 24, no timestamp.
-pub fn plain() -> Given {
+pub fn plain() -> Given
+    ensures { λ _. ⊤ₛ }
+{
     Given {
         sync: 0xff073ab6,
         fct: 17,
@@ -102,7 +107,9 @@ fn fic_words(ficf: u8, mid: u8) -> usize
 }
 
 // The bytes from start up to end, with no order in their bits.
-pub fn put_main(frame: &mut [u8], start: usize, end: usize) {
+pub fn put_main(frame: &mut [u8], start: usize, end: usize)
+    ensures { λ _. ⊤ₛ }
+{
     let mut i = start;
     while i < end {
         put1(frame, i, (i % 251) as u8);
@@ -111,7 +118,9 @@ pub fn put_main(frame: &mut [u8], start: usize, end: usize) {
 }
 
 // The sum of the bytes from start up to end, as many as there are.
-pub fn sum_between(frame: &[u8], start: usize, end: usize) -> u16 {
+pub fn sum_between(frame: &[u8], start: usize, end: usize) -> u16
+    ensures { λ _. ⊤ₛ }
+{
     if start <= end {
         if end <= frame.len() {
             return sum::sum(&frame[start..end]);
@@ -149,7 +158,9 @@ fn put_end(frame: &mut [u8], g: Given, start: usize, end: usize) {
     }
 }
 
-pub fn build(frame: &mut [u8], g: Given) {
+pub fn build(frame: &mut [u8], g: Given)
+    ensures { λ _. ⊤ₛ }
+{
     let n = g.nst as usize;
     let fl = n + 1 + words(g) + (g.longer as usize);
     let start = 12 + n * 4;
@@ -157,4 +168,35 @@ pub fn build(frame: &mut [u8], g: Given) {
     put_header(frame, g, fl);
     put_main(frame, start, end);
     put_end(frame, g, start, end);
+}
+
+fn no_header() -> Header {
+    Header {
+        level: 255,
+        fsync1: false,
+        fct: 255,
+        ficf: false,
+        nst: 255,
+        fp: 255,
+        mid: 255,
+        fl: 65535,
+        mnsc: 0,
+        rfu: 0,
+        rfa: 0,
+        timestamp: Timestamp::Time(0),
+    }
+}
+
+// The header that reading hands out of the frame built.
+pub fn header(g: Given) -> Header
+    ensures { λ _. ⊤ₛ }
+{
+    let mut frame = [0x55u8; 6144];
+    build(&mut frame, g);
+    let reading = reading::read(&frame);
+    let answer = reading.answer;
+    match answer {
+        Answer::Accepted(h) => h,
+        Answer::Refused(_) => no_header(),
+    }
 }

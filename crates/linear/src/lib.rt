@@ -1,0 +1,1 @@
+// Functions that keep exclusive or: laws about numbers alone, in proofs/.
