@@ -1,2 +1,3 @@
+pub mod CWalk
 pub mod Telling
 pub mod Tables

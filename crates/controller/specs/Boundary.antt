@@ -17,6 +17,7 @@ use Rattle.frame.specs.Answers.{digit, sortOf, fieldsOf, tableBy, timeBy}
 use Rattle.frame.specs.Writing.{streamValues}
 use Rattle.walk.specs.declared.Item.{Item}
 use Rattle.walk.specs.declared.State.{State}
+use Rattle.walk.specs.declared.Step.{Step}
 use Rattle.walk.specs.ItemValues.{kindOf, placeOf, lostOf}
 use Rattle.walk.specs.Records.{stepAt}
 
@@ -77,9 +78,12 @@ stepBytes x s = encode (8 ∷ []) (s .place ∷ []) ++ encode marksCounts (marks
 unfoldable pub stateIn : List ℕ → State
 stateIn w = record { place = eightAt w 0; misses = getD w 8 0; lock = eqb (getD w 9 0) 1 }
 
--- a walk's bytes w after a step over a record
+-- the bytes that a step leaves, and a walk's bytes w after a step over a record
+abbrev pub leftBy : Step → List ℕ
+leftBy r = stepBytes (r .item) (r .walk)
+
 abbrev pub walkOf : List ℕ → List ℕ → List ℕ
-walkOf bytes w = stepBytes (stepAt 3 bytes (stateIn w) .item) (stepAt 3 bytes (stateIn w) .walk)
+walkOf bytes w = leftBy (stepAt 3 bytes (stateIn w))
 
 -- the lock is one bit: above 1 it is a value wider than its field
 unfoldable pub stateRefusalOf : List ℕ → ℕ
@@ -94,7 +98,7 @@ pub record Told (n refusal : ℕ) (bytes before after : List ℕ) (r : ℕ) : Ty
   pub number : r ≡ lentRefusal n (length before) refusal
   pub answer : after ≡ pick (eqb (lentRefusal n (length before) refusal) 0) bytes before
 
--- ---- a walk from C: after each call of the step, the walk's bytes; the next call is lent the bytes that the last one left
+-- ---- a walk from C: the bytes that calls of the step leave, one after another; each call is lent the bytes that the call before it left
 pub data Called (bytes : List ℕ) : List ℕ → List (List ℕ) → Type 0 where
   none : {w : List ℕ} → Called bytes w []
   more : {w left : List ℕ} {r : ℕ} {ws : List (List ℕ)} → Told 20 (stateRefusalOf w) (walkOf bytes w) w left r → Called bytes left ws → Called bytes w (left ∷ ws)

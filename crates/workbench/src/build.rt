@@ -21,9 +21,7 @@ pub struct Given {
 }
 
 // Level 0, FSYNC0, FCT 17, the FIC of mode I, one stream of STL 24, no timestamp.
-pub fn plain() -> Given
-    ensures { λ _. ⊤ₛ }
-{
+pub fn plain() -> Given {
     Given {
         sync: 0xff073ab6,
         fct: 17,
@@ -107,9 +105,7 @@ fn fic_words(ficf: u8, mid: u8) -> usize
 }
 
 // The bytes from start up to end, with no order in their bits.
-pub fn put_main(frame: &mut [u8], start: usize, end: usize)
-    ensures { λ _. ⊤ₛ }
-{
+pub fn put_main(frame: &mut [u8], start: usize, end: usize) {
     let mut i = start;
     while i < end {
         put1(frame, i, (i % 251) as u8);
@@ -118,9 +114,7 @@ pub fn put_main(frame: &mut [u8], start: usize, end: usize)
 }
 
 // The sum of the bytes from start up to end, as many as there are.
-pub fn sum_between(frame: &[u8], start: usize, end: usize) -> u16
-    ensures { λ _. ⊤ₛ }
-{
+pub fn sum_between(frame: &[u8], start: usize, end: usize) -> u16 {
     if start <= end {
         if end <= frame.len() {
             return sum::sum(&frame[start..end]);
@@ -158,9 +152,7 @@ fn put_end(frame: &mut [u8], g: Given, start: usize, end: usize) {
     }
 }
 
-pub fn build(frame: &mut [u8], g: Given)
-    ensures { λ _. ⊤ₛ }
-{
+pub fn build(frame: &mut [u8], g: Given) {
     let n = g.nst as usize;
     let fl = n + 1 + words(g) + (g.longer as usize);
     let start = 12 + n * 4;
@@ -188,9 +180,7 @@ fn no_header() -> Header {
 }
 
 // The header that reading hands out of the frame built.
-pub fn header(g: Given) -> Header
-    ensures { λ _. ⊤ₛ }
-{
+pub fn header(g: Given) -> Header {
     let mut frame = [0x55u8; 6144];
     build(&mut frame, g);
     let reading = reading::read(&frame);

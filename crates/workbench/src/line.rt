@@ -1,15 +1,11 @@
 // A row: what was tried, the result, what it should be, and whether it is.
 use libc::STDOUT_FILENO;
 
-pub fn text(words: &[u8])
-    ensures { λ _. ⊤ₛ }
-{
+pub fn text(words: &[u8]) {
     io::write_all(STDOUT_FILENO, words);
 }
 
-pub fn number(n: usize)
-    ensures { λ _. ⊤ₛ }
-{
+pub fn number(n: usize) {
     io::print_decimal(STDOUT_FILENO, n as u64);
 }
 
@@ -22,9 +18,7 @@ fn verdict(right: bool) {
 }
 
 // A row on a sum; what `text` and `number` printed before it stands at its beginning.
-pub fn sum(tried: &[u8], result: u16, expected: u16)
-    ensures { λ _. ⊤ₛ }
-{
+pub fn sum(tried: &[u8], result: u16, expected: u16) {
     text(tried);
     text(b": ");
     io::print_hex(STDOUT_FILENO, result as u64, 4);
@@ -34,9 +28,7 @@ pub fn sum(tried: &[u8], result: u16, expected: u16)
 }
 
 // A row on any other number.
-pub fn plain(tried: &[u8], result: usize, expected: usize)
-    ensures { λ _. ⊤ₛ }
-{
+pub fn plain(tried: &[u8], result: usize, expected: usize) {
     text(tried);
     text(b": ");
     number(result);
