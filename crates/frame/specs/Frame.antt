@@ -7,8 +7,13 @@ use Prim.Native.Nat.{ℕ, zero, suc, _+_, _-_, _*_, max}
 use lib.Dec.{eqb}
 use lib.ListN.{length, getD, take, drop}
 use Rattle.sum.specs.Sum.{sumOf}
+use Rattle.frame.specs.declared.Eof.{Eof}
+use Rattle.frame.specs.declared.Eoh.{Eoh}
+use Rattle.frame.specs.declared.Fc.{Fc}
 use Rattle.frame.specs.declared.Span.{Span}
 use Rattle.frame.specs.declared.Stream.{Stream}
+use Rattle.frame.specs.declared.Sync.{Sync}
+use Rattle.frame.specs.declared.Tist.{Tist}
 use Rattle.octets.specs.Choice.{pick, placeIn}
 use Rattle.octets.specs.Words.{split, wordAt}
 
@@ -25,6 +30,9 @@ errOf f = getD (split syncWidths (wordAt f 0)) 0 0
 
 unfoldable pub fsyncOf : List ℕ → ℕ
 fsyncOf f = getD (split syncWidths (wordAt f 0)) 1 0
+
+abbrev pub syncFor : List ℕ → Sync
+syncFor f = record { err = errOf f; fsync = fsyncOf f }
 
 -- 5.2, table 2: the status bytes of the levels 0 to 3. The level of a byte is its place here, 4 where it is none of them
 abbrev pub statuses : List ℕ
@@ -69,6 +77,9 @@ midOf f = getD (fcOf f) 4 0
 unfoldable pub flOf : List ℕ → ℕ
 flOf f = getD (fcOf f) 5 0
 
+abbrev pub fcFor : List ℕ → Fc
+fcFor f = record { fct = fctOf f; ficf = ficfOf f; nst = nstOf f; fp = fpOf f; mid = midOf f; fl = flOf f }
+
 -- table 3, in words of 32 bits; 32 belong to mode III, which is MID 3
 unfoldable pub ficlBy : ℕ → ℕ → ℕ
 ficlBy ficf mid = pick (eqb ficf 0) 0 (pick (eqb mid 3) 32 24)
@@ -80,17 +91,17 @@ ficlOf f = ficlBy (ficfOf f) (midOf f)
 abbrev pub sstcWidths : List ℕ
 sstcWidths = 6 ∷ 10 ∷ 6 ∷ 10 ∷ []
 
-abbrev pub sstcOf : List ℕ → ℕ → List ℕ
-sstcOf f i = split sstcWidths (wordAt f (4 + (i + 1) * 4))
+abbrev pub streamBy : ℕ → Stream
+streamBy w =
+    record {
+      scid = getD (split sstcWidths w) 0 0;
+      sad = getD (split sstcWidths w) 1 0;
+      tpl = getD (split sstcWidths w) 2 0;
+      stl = getD (split sstcWidths w) 3 0;
+    }
 
 unfoldable pub streamOf : List ℕ → ℕ → Stream
-streamOf f i =
-    record {
-      scid = getD (sstcOf f i) 0 0;
-      sad = getD (sstcOf f i) 1 0;
-      tpl = getD (sstcOf f i) 2 0;
-      stl = getD (sstcOf f i) 3 0;
-    }
+streamOf f i = streamBy (wordAt f (4 + (i + 1) * 4))
 
 -- the first n entries
 unfoldable pub streamsTo : List ℕ → ℕ → List Stream
@@ -120,6 +131,9 @@ mnscOf f = getD (eohOf f) 0 0
 
 unfoldable pub headerSumOf : List ℕ → ℕ
 headerSumOf f = getD (eohOf f) 1 0
+
+abbrev pub eohFor : List ℕ → Eoh
+eohFor f = record { mnsc = mnscOf f; sum = headerSumOf f }
 
 abbrev pub headerBytesOf : List ℕ → List ℕ
 headerBytesOf f = between f 4 (4 + ((nstOf f + 1) * 4 + 2))
@@ -176,6 +190,9 @@ mainSumOf f = getD (eofOf f) 0 0
 unfoldable pub rfuOf : List ℕ → ℕ
 rfuOf f = getD (eofOf f) 1 0
 
+abbrev pub eofFor : List ℕ → Eof
+eofFor f = record { sum = mainSumOf f; rfu = rfuOf f }
+
 -- ---- TIST, clause 5.8 and annex C.3: Rfa, and the timestamp
 abbrev pub tistWidths : List ℕ
 tistWidths = 8 ∷ 24 ∷ []
@@ -188,6 +205,9 @@ rfaOf f = getD (tistOf f) 0 0
 
 unfoldable pub timeOf : List ℕ → ℕ
 timeOf f = getD (tistOf f) 1 0
+
+abbrev pub tistFor : List ℕ → Tist
+tistFor f = record { rfa = rfaOf f; time = timeOf f }
 
 -- ---- figure 6: the carried bytes, SYNC and the logical frame; the rest is padding
 abbrev pub carriedBy : ℕ → ℕ

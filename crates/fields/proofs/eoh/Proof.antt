@@ -1,0 +1,25 @@
+use mathlib.Core.Path.{ap}
+use Rattle.frame.specs.declared.Fc.{Fc}
+use native.Mathlib.Nat.{div-one}
+use Rattle.frame.specs.Frame.{mnscOf, headerSumOf}
+use borrow.Author.Needs.{needs}
+use Rattle.fields.proofs.eoh.Statement.{statement}
+use Rattle.fields.proofs.eoh.Tie as tie
+
+returns : tie.Need-returns
+unfolding mnscOf headerSumOf
+returns c = cc (div-one (c .word .result), ap (λ (x : Fc). x .nst) (c .before .before .fc .ensures))
+
+pub eoh-spec : {M : Type 1} → statement M
+eoh-spec =
+    tie.close
+    (tie.spec
+    (λ c κs. search needs)
+    (λ c. search needs)
+    (λ c. search needs)
+    (λ c. search needs)
+    (λ c. search needs)
+    (λ c κs. search needs)
+    (λ c. search needs)
+    (λ c. search needs)
+    returns)

@@ -1,0 +1,25 @@
+use mathlib.Core.Path.{ap}
+use Rattle.frame.specs.declared.Fc.{Fc}
+use native.Mathlib.Nat.{div-one}
+use Rattle.frame.specs.Frame.{rfaOf, timeOf}
+use borrow.Author.Needs.{needs}
+use Rattle.fields.proofs.tist.Statement.{statement}
+use Rattle.fields.proofs.tist.Tie as tie
+
+returns : tie.Need-returns
+unfolding rfaOf timeOf
+returns c = cc (div-one (c .word .result), ap (λ (x : Fc). x .fl) (c .before .before .fc .ensures))
+
+pub tist-spec : {M : Type 1} → statement M
+tist-spec =
+    tie.close
+    (tie.spec
+    (λ c κs. search needs)
+    (λ c. search needs)
+    (λ c. search needs)
+    (λ c. search needs)
+    (λ c. search needs)
+    (λ c κs. search needs)
+    (λ c. search needs)
+    (λ c. search needs)
+    returns)
