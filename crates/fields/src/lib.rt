@@ -2,7 +2,7 @@
 ghost use mathlib.Core.Path.{_≡_};
 ghost use Prim.Native.Nat.{_<_, _≤_};
 ghost use Rattle.octets.specs.Choice.{placeIn};
-ghost use Rattle.frame.specs.Frame.{statuses, fsyncs, ficlBy, streamBy, streamOf, syncFor, fcFor, eohFor, eofFor, tistFor};
+ghost use Rattle.frame.specs.Frame.{statuses, fsyncs, ficlBy, streamBy, streamOf, IsSync, IsFc, IsEoh, IsEof, IsTist};
 use frame::Eof;
 use frame::Eoh;
 use frame::Fc;
@@ -11,7 +11,7 @@ use frame::Sync;
 use frame::Tist;
 
 pub fn sync(frame: &[u8]) -> Sync
-    ensures { λ r. ⌜ r ≡ syncFor (now (frame .entry)) ⌝ }
+    ensures { λ r. ⌜ IsSync (now (frame .entry)) r ⌝ }
 {
     let w = octets::word(frame, 0);
     Sync {
@@ -21,7 +21,7 @@ pub fn sync(frame: &[u8]) -> Sync
 }
 
 pub fn fc(frame: &[u8]) -> Fc
-    ensures { λ r. ⌜ r ≡ fcFor (now (frame .entry)) ⌝ }
+    ensures { λ r. ⌜ IsFc (now (frame .entry)) r ⌝ }
 {
     let w = octets::word(frame, 4);
     Fc {
@@ -57,7 +57,7 @@ pub fn entry(frame: &[u8], i: usize) -> Stream
 }
 
 pub fn eoh(frame: &[u8]) -> Eoh
-    ensures { λ r. ⌜ r ≡ eohFor (now (frame .entry)) ⌝ }
+    ensures { λ r. ⌜ IsEoh (now (frame .entry)) r ⌝ }
 {
     let fc = fc(frame);
     let w = octets::word(frame, 4 + (fc.nst as usize + 1) * 4);
@@ -68,7 +68,7 @@ pub fn eoh(frame: &[u8]) -> Eoh
 }
 
 pub fn eof(frame: &[u8]) -> Eof
-    ensures { λ r. ⌜ r ≡ eofFor (now (frame .entry)) ⌝ }
+    ensures { λ r. ⌜ IsEof (now (frame .entry)) r ⌝ }
 {
     let fc = fc(frame);
     let w = octets::word(frame, 4 + (fc.fl as usize + 1) * 4);
@@ -79,7 +79,7 @@ pub fn eof(frame: &[u8]) -> Eof
 }
 
 pub fn tist(frame: &[u8]) -> Tist
-    ensures { λ r. ⌜ r ≡ tistFor (now (frame .entry)) ⌝ }
+    ensures { λ r. ⌜ IsTist (now (frame .entry)) r ⌝ }
 {
     let fc = fc(frame);
     let w = octets::word(frame, 4 + (fc.fl as usize + 2) * 4);

@@ -21,7 +21,7 @@ use Rattle.octets.specs.Words.{split, wordAt}
 abbrev pub between : List ℕ → ℕ → ℕ → List ℕ
 between f a e = take (e - a) (drop a f)
 
--- ---- SYNC, clause 6.2.1: ERR of 8 bits, FSYNC of 24
+-- ---- SYNC, clause 6.2.1: ERR of 8 bits, FSYNC of 24. Of a word's fields as one value: r is the SYNC of f, and so on
 abbrev pub syncWidths : List ℕ
 syncWidths = 8 ∷ 24 ∷ []
 
@@ -31,8 +31,9 @@ errOf f = getD (split syncWidths (wordAt f 0)) 0 0
 unfoldable pub fsyncOf : List ℕ → ℕ
 fsyncOf f = getD (split syncWidths (wordAt f 0)) 1 0
 
-abbrev pub syncFor : List ℕ → Sync
-syncFor f = record { err = errOf f; fsync = fsyncOf f }
+pub record IsSync (f : List ℕ) (r : Sync) : Type 0 where
+  pub err : r .err ≡ errOf f
+  pub fsync : r .fsync ≡ fsyncOf f
 
 -- 5.2, table 2: the status bytes of the levels 0 to 3. The level of a byte is its place here, 4 where it is none of them
 abbrev pub statuses : List ℕ
@@ -77,8 +78,13 @@ midOf f = getD (fcOf f) 4 0
 unfoldable pub flOf : List ℕ → ℕ
 flOf f = getD (fcOf f) 5 0
 
-abbrev pub fcFor : List ℕ → Fc
-fcFor f = record { fct = fctOf f; ficf = ficfOf f; nst = nstOf f; fp = fpOf f; mid = midOf f; fl = flOf f }
+pub record IsFc (f : List ℕ) (r : Fc) : Type 0 where
+  pub fct : r .fct ≡ fctOf f
+  pub ficf : r .ficf ≡ ficfOf f
+  pub nst : r .nst ≡ nstOf f
+  pub fp : r .fp ≡ fpOf f
+  pub mid : r .mid ≡ midOf f
+  pub fl : r .fl ≡ flOf f
 
 -- table 3, in words of 32 bits; 32 belong to mode III, which is MID 3
 unfoldable pub ficlBy : ℕ → ℕ → ℕ
@@ -132,8 +138,9 @@ mnscOf f = getD (eohOf f) 0 0
 unfoldable pub headerSumOf : List ℕ → ℕ
 headerSumOf f = getD (eohOf f) 1 0
 
-abbrev pub eohFor : List ℕ → Eoh
-eohFor f = record { mnsc = mnscOf f; sum = headerSumOf f }
+pub record IsEoh (f : List ℕ) (r : Eoh) : Type 0 where
+  pub mnsc : r .mnsc ≡ mnscOf f
+  pub sum : r .sum ≡ headerSumOf f
 
 abbrev pub headerBytesOf : List ℕ → List ℕ
 headerBytesOf f = between f 4 (4 + ((nstOf f + 1) * 4 + 2))
@@ -190,8 +197,9 @@ mainSumOf f = getD (eofOf f) 0 0
 unfoldable pub rfuOf : List ℕ → ℕ
 rfuOf f = getD (eofOf f) 1 0
 
-abbrev pub eofFor : List ℕ → Eof
-eofFor f = record { sum = mainSumOf f; rfu = rfuOf f }
+pub record IsEof (f : List ℕ) (r : Eof) : Type 0 where
+  pub sum : r .sum ≡ mainSumOf f
+  pub rfu : r .rfu ≡ rfuOf f
 
 -- ---- TIST, clause 5.8 and annex C.3: Rfa, and the timestamp
 abbrev pub tistWidths : List ℕ
@@ -206,8 +214,9 @@ rfaOf f = getD (tistOf f) 0 0
 unfoldable pub timeOf : List ℕ → ℕ
 timeOf f = getD (tistOf f) 1 0
 
-abbrev pub tistFor : List ℕ → Tist
-tistFor f = record { rfa = rfaOf f; time = timeOf f }
+pub record IsTist (f : List ℕ) (r : Tist) : Type 0 where
+  pub rfa : r .rfa ≡ rfaOf f
+  pub time : r .time ≡ timeOf f
 
 -- ---- figure 6: the carried bytes, SYNC and the logical frame; the rest is padding
 abbrev pub carriedBy : ℕ → ℕ

@@ -10,7 +10,7 @@ use frame::Timestamp;
 fn refusal(given: &[u8], g: Given, expected: usize) {
     let mut frame = [0x55u8; 6144];
     build(&mut frame, g);
-    let result = reading::judge(&frame);
+    let result = judging::judge(&frame);
     line::text(b"refusal, ");
     line::text(given);
     line::plain(result as usize, expected);
@@ -99,10 +99,10 @@ fn null_transmission() {
     frame[2] = 0x3a;
     frame[3] = 0xb6;
     line::text(b"refusal, null transmission");
-    line::plain(reading::judge(&frame) as usize, 4);
+    line::plain(judging::judge(&frame) as usize, 4);
     frame[3] = 0xb7;
     line::text(b"refusal, null transmission with a bad sync word");
-    line::plain(reading::judge(&frame) as usize, 2);
+    line::plain(judging::judge(&frame) as usize, 2);
 }
 
 fn refusals() {
@@ -141,7 +141,7 @@ fn refusals() {
 
 fn lent(bytes: &[u8], n: usize) {
     if n <= bytes.len() {
-        let result = reading::judge(&bytes[..n]);
+        let result = judging::judge(&bytes[..n]);
         line::text(b"refusal, bytes lent ");
         line::number(n);
         line::plain(result as usize, 1);
@@ -228,21 +228,21 @@ fn parts(given: &[u8], g: Given, fic_len: usize, start: usize) {
     build(&mut frame, g);
     line::text(given);
     line::text(b", FIC bytes");
-    line::plain(reading::fic(&frame).len(), fic_len);
-    let place = reading::stream_place(&frame, 0);
+    line::plain(parts::fic(&frame).len(), fic_len);
+    let place = parts::stream_place(&frame, 0);
     line::text(given);
     line::text(b", stream 0 begins at");
     line::plain(place.start, start);
     line::text(given);
     line::text(b", stream 0 bytes");
-    line::plain(reading::stream(&frame, 0).len(), 192);
+    line::plain(parts::stream(&frame, 0).len(), 192);
 }
 
 fn index(i: usize, expected: usize) {
     let mut frame = [0x55u8; 6144];
     build(&mut frame, plain());
-    let result = reading::stream_refusal(&frame, i);
-    let part = reading::stream(&frame, i);
+    let result = parts::stream_refusal(&frame, i);
+    let part = parts::stream(&frame, i);
     line::text(b"refusal, stream index ");
     line::number(i);
     line::plain(result as usize, expected);

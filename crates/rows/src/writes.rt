@@ -150,7 +150,7 @@ fn accepted(given: &[u8], x: Fields, n: usize) {
     line::text(given);
     line::plain(result as usize, 0);
     line::text(b"reading it");
-    line::plain(reading::judge(&out) as usize, 0);
+    line::plain(judging::judge(&out) as usize, 0);
 }
 
 fn written() {

@@ -1,5 +1,3 @@
-use mathlib.Core.Path.{ap}
-use Rattle.frame.specs.declared.Fc.{Fc}
 use native.Mathlib.Nat.{div-one}
 use Rattle.frame.specs.Frame.{mnscOf, headerSumOf}
 use borrow.Author.Needs.{needs}
@@ -8,7 +6,7 @@ use Rattle.fields.proofs.eoh.Tie as tie
 
 returns : tie.Need-returns
 unfolding mnscOf headerSumOf
-returns c = cc (div-one (c .word .result), ap (λ (x : Fc). x .nst) (c .before .before .fc .ensures))
+returns c = record { mnsc = cc; sum = cc (div-one (c .word .result)) }
 
 pub eoh-spec : {M : Type 1} → statement M
 eoh-spec =

@@ -6,7 +6,7 @@ use Rattle.fields.proofs.fc.Tie as tie
 
 returns : tie.Need-returns
 unfolding fctOf ficfOf nstOf fpOf midOf flOf
-returns c = cc (div-one (c .word .result))
+returns c = record { fct = cc; ficf = cc; nst = cc; fp = cc; mid = cc; fl = cc (div-one (c .word .result)) }
 
 pub fc-spec : {M : Type 1} → statement M
 fc-spec =
