@@ -1,6 +1,7 @@
 // The words of a frame, each as its fields: total, with 0 for what lies beyond the bytes lent.
 ghost use mathlib.Core.Path.{_≡_};
 ghost use Prim.Native.Nat.{_<_, _≤_};
+ghost use Rattle.sum.specs.Sum.{digit};
 ghost use Rattle.octets.specs.Choice.{placeIn};
 ghost use Rattle.frame.specs.Frame.{statuses, fsyncs, ficlBy, streamBy, streamOf, IsSync, IsFc, IsEoh, IsEof, IsTist};
 use frame::Eof;
@@ -119,6 +120,13 @@ pub fn level(status: u8) -> u8
         return 3;
     }
     4
+}
+
+// A flag as its bit.
+pub fn bit(b: bool) -> u8
+    ensures { λ r. ⌜ r ≡ digit b ⌝ }
+{
+    if b { 1 } else { 0 }
 }
 
 pub fn ficl(ficf: u8, mid: u8) -> usize
