@@ -23,7 +23,7 @@ pub fn stream_refusal(frame: &[u8], i: usize) -> u8
         return refusal;
     }
     let fc = fields::fc(frame);
-    if fc.nst as usize <= i { 13 } else { 0 }
+    if (fc.nst as usize) <= i { 13 } else { 0 }
 }
 
 fn main_span(frame: &[u8]) -> Span
@@ -77,7 +77,7 @@ fn main_place(frame: &[u8]) -> Span
 pub fn fic_place(frame: &[u8]) -> Span
     ensures { λ r. ⌜ r ≡ ficPart (now (frame .entry)) ⌝ }
 {
-    if fic_refusal(frame) != 0 {
+    if judging::judge(frame) != 0 {
         return Span { start: 0, len: 0 };
     }
     fic_span(frame)

@@ -7,11 +7,11 @@ use Rattle.parts.proofs.fic_place.Tie as tie
 
 returns : tie.Need-returns
 unfolding ficPart
-returns c = granted-refused _ _ _ (c .before .fic-refusal .ensures) (c .if1 .taken)
+returns c = granted-refused _ _ _ (c .before .judge .ensures) (c .if1 .taken)
 
 returns-2 : tie.Need-returns-2
 unfolding ficPart
-returns-2 c = c .fic-span .ensures ∙ granted-given _ _ _ (c .before .before .fic-refusal .ensures) (c .before .if1 .left)
+returns-2 c = c .fic-span .ensures ∙ granted-given _ _ _ (c .before .before .judge .ensures) (c .before .if1 .left)
 
 pub fic-place-spec : {M : Type 1} → statement M
 fic-place-spec = tie.close (tie.spec (λ c κs. search needs) returns (λ c κs. search needs) returns-2)

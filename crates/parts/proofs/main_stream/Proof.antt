@@ -7,7 +7,7 @@ part-requires : tie.Need-part-requires
 part-requires c κs = rw (c .main-place .ensures) (main-part-inside _)
 
 returns : tie.Need-returns
-returns c = rw (← c .before .main-place .ensures) (c .part .ensures)
+returns c = rw (c .before .main-place .ensures) at (c .part .ensures)
 
 pub main-stream-spec : {M : Type 1} → statement M
 main-stream-spec = tie.close (tie.spec (λ c κs. search needs) part-requires returns)

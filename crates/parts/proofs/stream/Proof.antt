@@ -7,7 +7,7 @@ part-requires : tie.Need-part-requires
 part-requires c κs = rw (c .stream-place .ensures) (stream-part-inside _ _)
 
 returns : tie.Need-returns
-returns c = rw (← c .before .stream-place .ensures) (c .part .ensures)
+returns c = rw (c .before .stream-place .ensures) at (c .part .ensures)
 
 pub stream-spec : {M : Type 1} → statement M
 stream-spec = tie.close (tie.spec (λ c κs. search needs) part-requires returns)
