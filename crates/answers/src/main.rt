@@ -77,22 +77,22 @@ fn parts(given: &[u8], g: Given, fic_len: usize, start: usize) {
     let mut frame = [0x55u8; 6144];
     build(&mut frame, g);
     line::text(given);
-    line::plain(b", FIC bytes", reading::fic(&frame).len(), fic_len);
-    let place = reading::stream_place(&frame, 0);
+    line::plain(b", FIC bytes", parts::fic(&frame).len(), fic_len);
+    let place = parts::stream_place(&frame, 0);
     line::text(given);
     line::plain(b", stream 0 begins at", place.start, start);
     line::text(given);
-    line::plain(b", stream 0 bytes", reading::stream(&frame, 0).len(), 192);
+    line::plain(b", stream 0 bytes", parts::stream(&frame, 0).len(), 192);
 }
 
 fn index(i: usize, expected: usize, len: usize) {
     let mut frame = [0x55u8; 6144];
     build(&mut frame, plain());
-    let result = reading::stream_refusal(&frame, i);
+    let result = parts::stream_refusal(&frame, i);
     line::text(b"refusal, stream index ");
     line::number(i);
     line::plain(b"", result as usize, expected);
-    line::plain(b"bytes of its part", reading::stream(&frame, i).len(), len);
+    line::plain(b"bytes of its part", parts::stream(&frame, i).len(), len);
 }
 
 fn all_parts() {

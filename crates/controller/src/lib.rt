@@ -160,11 +160,11 @@ pub extern "C" fn spindlewren_fic(frame: &[u8], answer: &mut [u8]) -> u8
     if answer.len() != 4 {
         return 1;
     }
-    let refusal = reading::fic_refusal(frame);
+    let refusal = parts::fic_refusal(frame);
     if refusal != 0 {
         return refusal;
     }
-    put_part(answer, reading::fic_place(frame));
+    put_part(answer, parts::fic_place(frame));
     0
 }
 
@@ -176,11 +176,11 @@ pub extern "C" fn spindlewren_stream(frame: &[u8], i: usize, answer: &mut [u8]) 
     if answer.len() != 4 {
         return 1;
     }
-    let refusal = reading::stream_refusal(frame, i);
+    let refusal = parts::stream_refusal(frame, i);
     if refusal != 0 {
         return refusal;
     }
-    put_part(answer, reading::stream_place(frame, i));
+    put_part(answer, parts::stream_place(frame, i));
     0
 }
 

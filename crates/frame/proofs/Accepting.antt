@@ -32,6 +32,10 @@ acceptable f e =
       room = ltb-false _ _ (p .1 .1 .1 .1 .1 .1 .1 .1 .1 .0);
     }
 
+-- the same for a caller of the judge
+pub judged : (f : List ℕ) (n : ℕ) → n ≡ refusalOf f → n ≡ 0 → Acceptable f
+judged f n e z = acceptable f (sym e ∙ z)
+
 pub accepted : (f : List ℕ) → Acceptable f → refusalOf f ≡ 0
 unfolding refusalOf
 accepted f a =

@@ -7,8 +7,13 @@ use Prim.Native.Nat.{ℕ, zero, suc, _+_, _-_, _*_, max}
 use lib.Dec.{eqb}
 use lib.ListN.{length, getD, take, drop}
 use Rattle.sum.specs.Sum.{sumOf}
+use Rattle.frame.specs.declared.Eof.{Eof}
+use Rattle.frame.specs.declared.Eoh.{Eoh}
+use Rattle.frame.specs.declared.Fc.{Fc}
 use Rattle.frame.specs.declared.Span.{Span}
 use Rattle.frame.specs.declared.Stream.{Stream}
+use Rattle.frame.specs.declared.Sync.{Sync}
+use Rattle.frame.specs.declared.Tist.{Tist}
 use Rattle.octets.specs.Choice.{pick, placeIn}
 use Rattle.octets.specs.Words.{split, wordAt}
 
@@ -16,7 +21,7 @@ use Rattle.octets.specs.Words.{split, wordAt}
 abbrev pub between : List ℕ → ℕ → ℕ → List ℕ
 between f a e = take (e - a) (drop a f)
 
--- ---- SYNC, clause 6.2.1: ERR of 8 bits, FSYNC of 24
+-- ---- SYNC, clause 6.2.1: ERR of 8 bits, FSYNC of 24. Of a word's fields as one value: r is the SYNC of f, and so on
 abbrev pub syncWidths : List ℕ
 syncWidths = 8 ∷ 24 ∷ []
 
@@ -25,6 +30,10 @@ errOf f = getD (split syncWidths (wordAt f 0)) 0 0
 
 unfoldable pub fsyncOf : List ℕ → ℕ
 fsyncOf f = getD (split syncWidths (wordAt f 0)) 1 0
+
+pub record IsSync (f : List ℕ) (r : Sync) : Type 0 where
+  pub err : r .err ≡ errOf f
+  pub fsync : r .fsync ≡ fsyncOf f
 
 -- 5.2, table 2: the status bytes of the levels 0 to 3. The level of a byte is its place here, 4 where it is none of them
 abbrev pub statuses : List ℕ
@@ -69,6 +78,14 @@ midOf f = getD (fcOf f) 4 0
 unfoldable pub flOf : List ℕ → ℕ
 flOf f = getD (fcOf f) 5 0
 
+pub record IsFc (f : List ℕ) (r : Fc) : Type 0 where
+  pub fct : r .fct ≡ fctOf f
+  pub ficf : r .ficf ≡ ficfOf f
+  pub nst : r .nst ≡ nstOf f
+  pub fp : r .fp ≡ fpOf f
+  pub mid : r .mid ≡ midOf f
+  pub fl : r .fl ≡ flOf f
+
 -- table 3, in words of 32 bits; 32 belong to mode III, which is MID 3
 unfoldable pub ficlBy : ℕ → ℕ → ℕ
 ficlBy ficf mid = pick (eqb ficf 0) 0 (pick (eqb mid 3) 32 24)
@@ -80,17 +97,17 @@ ficlOf f = ficlBy (ficfOf f) (midOf f)
 abbrev pub sstcWidths : List ℕ
 sstcWidths = 6 ∷ 10 ∷ 6 ∷ 10 ∷ []
 
-abbrev pub sstcOf : List ℕ → ℕ → List ℕ
-sstcOf f i = split sstcWidths (wordAt f (4 + (i + 1) * 4))
+abbrev pub streamBy : ℕ → Stream
+streamBy w =
+    record {
+      scid = getD (split sstcWidths w) 0 0;
+      sad = getD (split sstcWidths w) 1 0;
+      tpl = getD (split sstcWidths w) 2 0;
+      stl = getD (split sstcWidths w) 3 0;
+    }
 
 unfoldable pub streamOf : List ℕ → ℕ → Stream
-streamOf f i =
-    record {
-      scid = getD (sstcOf f i) 0 0;
-      sad = getD (sstcOf f i) 1 0;
-      tpl = getD (sstcOf f i) 2 0;
-      stl = getD (sstcOf f i) 3 0;
-    }
+streamOf f i = streamBy (wordAt f (4 + (i + 1) * 4))
 
 -- the first n entries
 unfoldable pub streamsTo : List ℕ → ℕ → List Stream
@@ -120,6 +137,10 @@ mnscOf f = getD (eohOf f) 0 0
 
 unfoldable pub headerSumOf : List ℕ → ℕ
 headerSumOf f = getD (eohOf f) 1 0
+
+pub record IsEoh (f : List ℕ) (r : Eoh) : Type 0 where
+  pub mnsc : r .mnsc ≡ mnscOf f
+  pub sum : r .sum ≡ headerSumOf f
 
 abbrev pub headerBytesOf : List ℕ → List ℕ
 headerBytesOf f = between f 4 (4 + ((nstOf f + 1) * 4 + 2))
@@ -176,6 +197,10 @@ mainSumOf f = getD (eofOf f) 0 0
 unfoldable pub rfuOf : List ℕ → ℕ
 rfuOf f = getD (eofOf f) 1 0
 
+pub record IsEof (f : List ℕ) (r : Eof) : Type 0 where
+  pub sum : r .sum ≡ mainSumOf f
+  pub rfu : r .rfu ≡ rfuOf f
+
 -- ---- TIST, clause 5.8 and annex C.3: Rfa, and the timestamp
 abbrev pub tistWidths : List ℕ
 tistWidths = 8 ∷ 24 ∷ []
@@ -188,6 +213,10 @@ rfaOf f = getD (tistOf f) 0 0
 
 unfoldable pub timeOf : List ℕ → ℕ
 timeOf f = getD (tistOf f) 1 0
+
+pub record IsTist (f : List ℕ) (r : Tist) : Type 0 where
+  pub rfa : r .rfa ≡ rfaOf f
+  pub time : r .time ≡ timeOf f
 
 -- ---- figure 6: the carried bytes, SYNC and the logical frame; the rest is padding
 abbrev pub carriedBy : ℕ → ℕ

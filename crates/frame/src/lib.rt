@@ -8,6 +8,36 @@ pub struct Stream {
     pub stl: u16,
 }
 
+// SYNC (clause 6.2.1), FC (clause 5.3), EOH (clause 5.5), EOF (clause 5.7) and TIST (clause 5.8): a word's fields.
+pub struct Sync {
+    pub err: u8,
+    pub fsync: u32,
+}
+
+pub struct Fc {
+    pub fct: u8,
+    pub ficf: u8,
+    pub nst: u8,
+    pub fp: u8,
+    pub mid: u8,
+    pub fl: u16,
+}
+
+pub struct Eoh {
+    pub mnsc: u16,
+    pub sum: u16,
+}
+
+pub struct Eof {
+    pub sum: u16,
+    pub rfu: u16,
+}
+
+pub struct Tist {
+    pub rfa: u8,
+    pub time: u32,
+}
+
 // The timestamp is of two sorts: none is given, or it is a time in periods of 16.384 MHz (annex C.2).
 pub enum Timestamp {
     Absent,

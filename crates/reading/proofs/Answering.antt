@@ -8,7 +8,7 @@ use Rattle.frame.specs.declared.Answer.the-variants.{Accepted, Refused}
 use Rattle.frame.specs.declared.Header.{Header}
 use Rattle.frame.specs.declared.Stream.{Stream}
 use Rattle.frame.specs.Frame.{streamsOf}
-use Rattle.frame.specs.Rules.{refusalOf, Acceptable}
+use Rattle.frame.specs.Rules.{refusalOf}
 use Rattle.frame.specs.Answers.{headerValues, headerFor, tableBy, Reads}
 use Rattle.frame.proofs.Accepting.{acceptable}
 use Rattle.frame.proofs.Headers.{header-values}
@@ -24,6 +24,3 @@ module _ (f : List ℕ) (n : ℕ) (e : n ≡ refusalOf f) where
       let o = sym e ∙ z in
       let y = eq-eqb (refusalOf f) 0 o in
       record { number = sym o; values = rw y (ap headerValues p ∙ header-values f (acceptable f o)); table = rw y q }
-
-  pub judged : n ≡ 0 → Acceptable f
-  judged z = acceptable f (sym e ∙ z)

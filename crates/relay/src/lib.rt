@@ -34,7 +34,7 @@ fn again(frame: &[u8], x: Fields, out: &mut [u8]) -> u8
     requires { ⌜ (refusalOf (now frame) ≡ 0) × (x ≡ fieldsFor (now frame)) ⌝ }
     ensures { λ r. ⌜ Relays (now (frame .entry)) (now (out .entry)) (now (out .exit)) r ⌝ }
 {
-    writing::write(x, reading::main_stream(frame), out)
+    writing::write(x, parts::main_stream(frame), out)
 }
 
 pub fn relay(frame: &[u8], out: &mut [u8]) -> u8

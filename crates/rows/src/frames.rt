@@ -8,7 +8,7 @@ use workbench::line;
 fn refusal(given: &[u8], g: Given, expected: usize) {
     let mut frame = [0x55u8; 6144];
     build(&mut frame, g);
-    let result = reading::judge(&frame);
+    let result = judging::judge(&frame);
     line::text(b"refusal, ");
     line::plain(given, result as usize, expected);
 }
@@ -69,7 +69,7 @@ fn null_transmission(given: &[u8], last: u8, expected: usize) {
     frame[1] = 0x07;
     frame[2] = 0x3a;
     frame[3] = last;
-    let result = reading::judge(&frame);
+    let result = judging::judge(&frame);
     line::plain(given, result as usize, expected);
 }
 
@@ -116,7 +116,7 @@ fn main_streams() {
 
 fn lent(bytes: &[u8], n: usize) {
     if n <= bytes.len() {
-        let result = reading::judge(&bytes[..n]);
+        let result = judging::judge(&bytes[..n]);
         line::text(b"refusal, bytes lent ");
         line::number(n);
         line::plain(b"", result as usize, 1);

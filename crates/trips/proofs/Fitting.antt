@@ -13,7 +13,7 @@ use Rattle.sum.specs.Sum.{sumOf}
 use Rattle.frame.specs.declared.Stream.{Stream}
 use Rattle.octets.specs.Words.{split, join, Fit, wordAt}
 use Rattle.octets.specs.Choice.{placeIn}
-use Rattle.frame.specs.Frame.{syncWidths, errOf, fsyncOf, statusBy, fsyncBy, fcWidths, fcOf, fctOf, ficfOf, nstOf, fpOf, midOf, flOf, sstcWidths, sstcOf, streamOf, streamsTo, eohWidths, eohOf, mnscOf, headerSumOf, eofWidths, eofOf, mainSumOf, rfuOf, tistWidths, tistOf, rfaOf, timeOf, statuses, mainOf, levelBy, levelOf}
+use Rattle.frame.specs.Frame.{syncWidths, errOf, fsyncOf, statusBy, fsyncBy, fcWidths, fcOf, fctOf, ficfOf, nstOf, fpOf, midOf, flOf, sstcWidths, streamOf, streamsTo, eohWidths, eohOf, mnscOf, headerSumOf, eofWidths, eofOf, mainSumOf, rfuOf, tistWidths, tistOf, rfaOf, timeOf, statuses, mainOf, levelBy, levelOf}
 use Rattle.frame.specs.Answers.{digit, noStream}
 use Rattle.frame.specs.Writing.{streamValues, Clean}
 use Rattle.octets.proofs.SplitJoin.{split-fit, split-join}
@@ -92,7 +92,7 @@ module _ (f : List ℕ) where
   pub entry-read : (i : ℕ) (s : Stream) → wordAt f (4 + (i + 1) * 4) ≡ join sstcWidths (streamValues s) → Fit sstcWidths (streamValues s) → streamOf f i ≡ s
   unfolding streamOf
   entry-read i s e h =
-      let p : sstcOf f i ≡ streamValues s = ap (split sstcWidths) e ∙ split-join sstcWidths (streamValues s) h in
+      let p : split sstcWidths (wordAt f (4 + (i + 1) * 4)) ≡ streamValues s = ap (split sstcWidths) e ∙ split-join sstcWidths (streamValues s) h in
       ap
       (λ (l : List ℕ). record { scid = getD l 0 0; sad = getD l 1 0; tpl = getD l 2 0; stl = getD l 3 0 })
       p

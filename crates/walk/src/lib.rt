@@ -41,7 +41,7 @@ fn judge_at(bytes: &[u8], p: usize) -> u8
     ensures { λ r. ⌜ r ≡ refusalOf (part (now (bytes .entry)) p) ⌝ }
 {
     let e = p + 6144;
-    reading::judge(&bytes[p..e])
+    judging::judge(&bytes[p..e])
 }
 
 fn fsync1_at(bytes: &[u8], p: usize) -> bool
@@ -49,7 +49,7 @@ fn fsync1_at(bytes: &[u8], p: usize) -> bool
     ensures { λ r. ⌜ r ≡ fsync1At (now (bytes .entry)) p ⌝ }
 {
     let e = p + 6144;
-    reading::is_fsync1(&bytes[p..e])
+    judging::is_fsync1(&bytes[p..e])
 }
 
 fn read_at(bytes: &[u8], p: usize) -> Reading

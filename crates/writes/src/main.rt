@@ -170,7 +170,7 @@ fn accepted(given: &[u8], x: Fields, n: usize) {
     let result = write(x, n, &mut out);
     line::text(b"writing, ");
     line::plain(given, result as usize, 0);
-    line::plain(b"reading it", reading::judge(&out) as usize, 0);
+    line::plain(b"reading it", judging::judge(&out) as usize, 0);
 }
 
 fn written() {

@@ -1,4 +1,3 @@
 pub mod Filled
 pub mod Puts
-pub mod Refusing
 pub mod Outcome

@@ -1,10 +1,11 @@
 use Rattle.frame.specs.Answers.{headerFor}
+use Rattle.frame.specs.Frame.{levelOf}
 use borrow.Author.Needs.{needs}
 use Rattle.reading.proofs.header.Statement.{statement}
 use Rattle.reading.proofs.header.Tie as tie
 
 returns : tie.Need-returns
-unfolding headerFor
+unfolding headerFor levelOf
 returns c = cc
 
 pub header-spec : {M : Type 1} → statement M
@@ -14,24 +15,11 @@ header-spec =
     (λ c κs. search needs)
     (λ c κs. search needs)
     (λ c κs. search needs)
-    (λ c. search needs)
     (λ c κs. search needs)
     (λ c κs. search needs)
     (λ c κs. search needs)
-    (λ c. search needs)
     (λ c κs. search needs)
     (λ c κs. search needs)
-    (λ c. search needs)
     (λ c κs. search needs)
-    (λ c. search needs)
     (λ c κs. search needs)
-    (λ c. search needs)
-    (λ c κs. search needs)
-    (λ c. search needs)
-    (λ c κs. search needs)
-    (λ c. search needs)
-    (λ c κs. search needs)
-    (λ c. search needs)
-    (λ c κs. search needs)
-    (λ c. search needs)
     returns)

@@ -1,12 +1,22 @@
-use Rattle.frame.specs.Frame.{mainSumOf}
 use borrow.Author.Needs.{needs}
 use Rattle.reading.proofs.main_sum.Statement.{statement}
 use Rattle.reading.proofs.main_sum.Tie as tie
 
 returns : tie.Need-returns
-unfolding mainSumOf
-returns c = (cc, search needs)
+returns c = cc
 
 pub main-sum-spec : {M : Type 1} → statement M
 main-sum-spec =
-    tie.close (tie.spec (λ c κs. search needs) (λ c. search needs) (λ c. search needs) (λ c. search needs) (λ c κs. search needs) returns)
+    tie.close
+    (tie.spec
+    (λ c κs. search needs)
+    (λ c. search needs)
+    (λ c. search needs)
+    (λ c. search needs)
+    (λ c. search needs)
+    (λ c. search needs)
+    (λ c. search needs)
+    (λ c. search needs)
+    (λ c. search needs)
+    (λ c κs. search needs)
+    returns)

@@ -1,6 +1,6 @@
+use borrow.Author.Needs.{needs}
 use Rattle.octets.proofs.Deciding.{tests}
 use Rattle.frame.specs.Answers.{timestampFor}
-use borrow.Author.Needs.{needs}
 use Rattle.reading.proofs.timestamp.Statement.{statement}
 use Rattle.reading.proofs.timestamp.Tie as tie
 
@@ -13,4 +13,4 @@ unfolding timestampFor
 returns-2 c = search (needs, tests)
 
 pub timestamp-spec : {M : Type 1} → statement M
-timestamp-spec = tie.close (tie.spec returns (λ c. search needs) returns-2)
+timestamp-spec = tie.close (tie.spec returns returns-2)

@@ -7,9 +7,6 @@ use Rattle.writing.proofs.fill.Tie as tie
 put-main-requires : tie.Need-put-main-requires
 put-main-requires c κs = omega (arith, fits _ _ _ (c .before .before .before .before .before .before .before .before .before .before .before .before .before .before .before .pre))
 
-sum-between-requires-2 : tie.Need-sum-between-requires-2
-sum-between-requires-2 c κs = let h = fits _ _ _ (c .before .before .before .before .before .before .before .before .before .before .before .before .before .before .before .before .before .before .before .pre) in (omega arith, omega arith)
-
 put-end-requires : tie.Need-put-end-requires
 put-end-requires c κs = omega (arith, fits _ _ _ (c .before .before .before .before .before .before .before .before .before .before .before .before .before .before .before .before .before .before .before .before .before .pre))
 
@@ -45,7 +42,7 @@ fill-spec =
     (λ c. search needs)
     (λ c. search needs)
     (λ c. search needs)
-    sum-between-requires-2
+    (λ c κs. search needs)
     put-end-requires
     (λ c. search needs)
     pad-requires

@@ -1,0 +1,139 @@
+// The words of a frame, each as its fields: total, with 0 for what lies beyond the bytes lent.
+ghost use mathlib.Core.Path.{_≡_};
+ghost use Prim.Native.Nat.{_<_, _≤_};
+ghost use Rattle.sum.specs.Sum.{digit};
+ghost use Rattle.octets.specs.Choice.{placeIn};
+ghost use Rattle.frame.specs.Frame.{statuses, fsyncs, ficlBy, streamBy, streamOf, IsSync, IsFc, IsEoh, IsEof, IsTist};
+use frame::Eof;
+use frame::Eoh;
+use frame::Fc;
+use frame::Stream;
+use frame::Sync;
+use frame::Tist;
+
+pub fn sync(frame: &[u8]) -> Sync
+    ensures { λ r. ⌜ IsSync (now (frame .entry)) r ⌝ }
+{
+    let w = octets::word(frame, 0);
+    Sync {
+        err: (w / 16777216 % 256) as u8,
+        fsync: (w % 16777216) as u32,
+    }
+}
+
+pub fn fc(frame: &[u8]) -> Fc
+    ensures { λ r. ⌜ IsFc (now (frame .entry)) r ⌝ }
+{
+    let w = octets::word(frame, 4);
+    Fc {
+        fct: (w / 16777216 % 256) as u8,
+        ficf: (w / 8388608 % 2) as u8,
+        nst: (w / 65536 % 128) as u8,
+        fp: (w / 8192 % 8) as u8,
+        mid: (w / 2048 % 4) as u8,
+        fl: (w % 2048) as u16,
+    }
+}
+
+fn stream(w: usize) -> Stream
+    requires { ⌜ w < 4294967296 ⌝ }
+    ensures { λ r. ⌜ r ≡ streamBy w ⌝ }
+{
+    Stream {
+        scid: (w / 67108864 % 64) as u8,
+        sad: (w / 65536 % 1024) as u16,
+        tpl: (w / 1024 % 64) as u8,
+        stl: (w % 1024) as u16,
+    }
+}
+
+// The entry of stream i, with no wrap at any i.
+pub fn entry(frame: &[u8], i: usize) -> Stream
+    ensures { λ r. ⌜ r ≡ streamOf (now (frame .entry)) i ⌝ }
+{
+    if i > frame.len() / 4 {
+        return stream(0);
+    }
+    stream(octets::word(frame, 4 + (i + 1) * 4))
+}
+
+pub fn eoh(frame: &[u8]) -> Eoh
+    ensures { λ r. ⌜ IsEoh (now (frame .entry)) r ⌝ }
+{
+    let fc = fc(frame);
+    let w = octets::word(frame, 4 + (fc.nst as usize + 1) * 4);
+    Eoh {
+        mnsc: (w / 65536 % 65536) as u16,
+        sum: (w % 65536) as u16,
+    }
+}
+
+pub fn eof(frame: &[u8]) -> Eof
+    ensures { λ r. ⌜ IsEof (now (frame .entry)) r ⌝ }
+{
+    let fc = fc(frame);
+    let w = octets::word(frame, 4 + (fc.fl as usize + 1) * 4);
+    Eof {
+        sum: (w / 65536 % 65536) as u16,
+        rfu: (w % 65536) as u16,
+    }
+}
+
+pub fn tist(frame: &[u8]) -> Tist
+    ensures { λ r. ⌜ IsTist (now (frame .entry)) r ⌝ }
+{
+    let fc = fc(frame);
+    let w = octets::word(frame, 4 + (fc.fl as usize + 2) * 4);
+    Tist {
+        rfa: (w / 16777216 % 256) as u8,
+        time: (w % 16777216) as u32,
+    }
+}
+
+// Which of the two sync words n is, and 2 where it is neither.
+pub fn fsync(n: u32) -> u8
+    ensures { λ r. ⌜ r ≡ placeIn fsyncs n ⌝ }
+{
+    if n == 0x073AB6 {
+        return 0;
+    }
+    if n == 0xF8C549 {
+        return 1;
+    }
+    2
+}
+
+// The level of a status byte, and 4 where it is none.
+pub fn level(status: u8) -> u8
+    ensures { λ r. ⌜ r ≡ placeIn statuses status ⌝ }
+{
+    if status == 0xFF {
+        return 0;
+    }
+    if status == 0xF0 {
+        return 1;
+    }
+    if status == 0x0F {
+        return 2;
+    }
+    if status == 0x00 {
+        return 3;
+    }
+    4
+}
+
+// A flag as its bit.
+pub fn bit(b: bool) -> u8
+    ensures { λ r. ⌜ r ≡ digit b ⌝ }
+{
+    if b { 1 } else { 0 }
+}
+
+pub fn ficl(ficf: u8, mid: u8) -> usize
+    ensures { λ r. ⌜ (r ≡ ficlBy ficf mid) × (r ≤ 32) ⌝ }
+{
+    if ficf == 0 {
+        return 0;
+    }
+    if mid == 3 { 32 } else { 24 }
+}

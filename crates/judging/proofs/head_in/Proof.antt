@@ -1,0 +1,18 @@
+use borrow.Author.Needs.{needs}
+use Rattle.judging.proofs.head_in.Statement.{statement}
+use Rattle.judging.proofs.head_in.Tie as tie
+
+returns : tie.Need-returns
+returns c = cc
+
+pub head-in-spec : {M : Type 1} → statement M
+head-in-spec =
+    tie.close
+    (tie.spec
+    (λ c κs. search needs)
+    (λ c κs. search needs)
+    (λ c κs. search needs)
+    (λ c κs. search needs)
+    (λ c κs. search needs)
+    (λ c κs. search needs)
+    returns)

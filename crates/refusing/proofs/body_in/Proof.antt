@@ -1,0 +1,26 @@
+use Rattle.frame.specs.Writing.{flIn}
+use borrow.Author.Needs.{needs}
+use Rattle.refusing.proofs.body_in.Statement.{statement}
+use Rattle.refusing.proofs.body_in.Tie as tie
+
+returns : tie.Need-returns
+unfolding flIn
+returns c = cc
+
+pub body-in-spec : {M : Type 1} → statement M
+body-in-spec =
+    tie.close
+    (tie.spec
+    (λ c κs. search needs)
+    (λ c κs. search needs)
+    (λ c κs. search needs)
+    (λ c. search needs)
+    (λ c. search needs)
+    (λ c. search needs)
+    (λ c. search needs)
+    (λ c. search needs)
+    (λ c. search needs)
+    (λ c. search needs)
+    (λ c. search needs)
+    (λ c κs. search needs)
+    returns)
