@@ -1,28 +1,19 @@
 -- What the export answers, refused and not.
 -- Assumes nothing.
-use mathlib.Core.Bool.{Bool, true, false}
 use mathlib.Core.List.{List, _++_}
-use mathlib.Core.Path.{_≡_, refl, sym, ap, ap₂, subst, _∙_}
-use Prim.Native.Nat.{ℕ, _+_, _*_, _≤_, _<_}
+use mathlib.Core.Path.{_≡_, refl, sym, ap, ap₂, _∙_}
+use Prim.Native.Nat.{ℕ, _+_, _≤_, _<_}
 use native.Mathlib.Omega.{arith}
 use borrow.Author.Tests.{eq-eqb, ne-eqb, lt-ltb, le-ltb}
-use lib.Dec.{lit<, eqb}
 use lib.ListN.{length, getD}
 use Rattle.frame.specs.declared.Answer.the-variants.{Accepted, Refused}
 use Rattle.frame.specs.declared.Header.{Header}
 use Rattle.frame.specs.declared.Reading.{Reading}
-use Rattle.frame.specs.declared.Timestamp.the-variants.{Absent, Time}
-use Rattle.octets.specs.Words.{wordAt}
-use Rattle.octets.specs.Choice.{pick}
-use Rattle.frame.specs.Frame.{flOf, tistWidths, timeOf}
-use Rattle.frame.specs.Rules.{refusalOf, streamRefusalOf, ficPart, streamPart}
-use Rattle.frame.specs.Answers.{headerValues, fieldsOf, Reads, timestampFor, headerFor, timeBy}
+use Rattle.frame.specs.Rules.{refusalOf}
+use Rattle.frame.specs.Answers.{headerValues, fieldsOf, Reads}
 use Rattle.frame.proofs.Accepting.{acceptable}
-use Rattle.frame.proofs.Tiling.{fic-part-inside, stream-part-inside, stream-granted}
-use Rattle.octets.proofs.SplitJoin.{split-fit}
 use Rattle.reading.proofs.Answered.{got-number, got-header, got-table, got-refused, got-nonzero}
-use Rattle.frame.proofs.Headers.{header-values, time-of-lt}
-use Rattle.frame.proofs.Timestamps.{time-kept}
+use Rattle.frame.proofs.Headers.{header-values}
 use Rattle.controller.specs.Boundary.{encode, headCounts, tableBytes, answerOf, stateRefusalOf, lentRefusal, Told}
 use Rattle.walk.specs.declared.State.{State}
 use Rattle.walk.specs.Records.{judged, stepWith, stepAt}
@@ -57,20 +48,6 @@ module _ (f before : List ℕ) (whole : length before ≡ 402) (r : Reading) (re
       let v : headerValues h ≡ fieldsOf f = ap headerValues (got-header f r reads h e) ∙ header-values f (acceptable f z) in
       let w = ap₂ (λ vs ts. encode headCounts vs ++ tableBytes ts) v (got-table f r reads h e) in
       told-given 402 (refusalOf f) (answerOf f) before whole 0 (sym z) refl after (p ∙ w)
-
-  -- a timestamp that reading gave is of 24 bits
-  pub time-fits : (h : Header) → r .answer ≡ Accepted h → timeBy (h .timestamp) < 16777216
-  unfolding headerFor
-  time-fits h e =
-      subst (λ (k : Header). timeBy (k .timestamp) < 16777216) (sym (got-header f r reads h e))
-      (rw (time-kept (timeOf f)) (time-of-lt f))
-
--- ---- parts: given, they lie within the frame
-pub fic-short : (f : List ℕ) (n : ℕ) → n ≡ refusalOf f → n ≡ 0 → ficPart f .start + ficPart f .len ≤ 6144
-fic-short f n e z = omega (arith, fic-part-inside f, acceptable f (sym e ∙ z) .whole)
-
-pub stream-short : (f : List ℕ) (i n : ℕ) → n ≡ streamRefusalOf f i → n ≡ 0 → streamPart f i .start + streamPart f i .len ≤ 6144
-stream-short f i n e z = omega (arith, stream-part-inside f i, stream-granted f i (sym e ∙ z) .0 .whole)
 
 -- ---- the walk's state
 pub lock-wide : (w : List ℕ) → 1 < getD w 9 0 → 12 ≡ stateRefusalOf w

@@ -1,13 +1,11 @@
 // The reading and the walk for the transmitter's controller, on numbers and byte slices.
-ghost use mathlib.Core.List.{[], _∷_, _++_};
+ghost use mathlib.Core.List.{_++_};
 ghost use mathlib.Core.Path.{_≡_};
 ghost use Prim.Native.Nat.{_+_, _≤_, _<_};
-ghost use lib.ListN.{length, getD};
-ghost use Rattle.octets.specs.Words.{wordAt};
+ghost use lib.ListN.{length};
 ghost use Rattle.octets.specs.Stores.{put};
 ghost use Rattle.frame.specs.Rules.{refusalOf, streamRefusalOf, ficPart, streamPart};
 ghost use Rattle.frame.specs.Answers.{digit, sortOf, headerValues, timeBy};
-ghost use Rattle.frame.specs.Writing.{streamValues};
 ghost use Rattle.walk.specs.ItemValues.{kindOf, placeOf, lostOf};
 ghost use Rattle.controller.specs.Boundary.{encode, headCounts, firstCounts, firstValues, secondCounts, secondValues, streamBytes, tableBytes, answerOf, partBytes, marksCounts, marksValues, stepBytes, stateIn, walkOf, stateRefusalOf, Told};
 use frame::Answer;
@@ -91,7 +89,7 @@ fn put_first(out: &mut [u8], h: Header)
 
 // MNSC to the timestamp, nine bytes from 9 on.
 fn put_second(out: &mut [u8], h: Header)
-    requires { ⌜ (length (now out) ≡ 402) × (timeBy (h .timestamp) < 16777216) ⌝ }
+    requires { ⌜ length (now out) ≡ 402 ⌝ }
     ensures { λ _. ⌜ now (out .exit) ≡ put (now (out .entry)) 9 (encode secondCounts (secondValues h)) ⌝ }
 {
     let mnsc = h.mnsc;
@@ -111,7 +109,7 @@ fn put_second(out: &mut [u8], h: Header)
 }
 
 fn put_answer(out: &mut [u8], h: Header, table: [Stream; 64])
-    requires { ⌜ (length (now out) ≡ 402) × (timeBy (h .timestamp) < 16777216) ⌝ }
+    requires { ⌜ length (now out) ≡ 402 ⌝ }
     ensures { λ _. ⌜ now (out .exit) ≡ encode headCounts (headerValues h) ++ tableBytes table ⌝ }
 {
     put_first(out, h);
@@ -141,7 +139,7 @@ pub extern "C" fn spindlewren_read(frame: &[u8], answer: &mut [u8]) -> u8
 
 // Where a part of a frame begins and how many bytes it has, in two bytes each.
 fn put_part(out: &mut [u8], part: Span)
-    requires { ⌜ (length (now out) ≡ 4) × (part .start + part .len ≤ 6144) ⌝ }
+    requires { ⌜ length (now out) ≡ 4 ⌝ }
     ensures { λ _. ⌜ now (out .exit) ≡ partBytes part ⌝ }
 {
     let start = part.start;

@@ -1,6 +1,6 @@
 -- The network frame, clause 6.2, and the logical frame in it, clause 5, from its list of bytes f. Byte k of the logical frame is byte 4 + k of f.
 -- Assumes nothing.
-use mathlib.Core.Bool.{Bool, true, false, _&&_}
+use mathlib.Core.Bool.{Bool, _&&_}
 use mathlib.Core.List.{List, [], _∷_, _++_}
 use mathlib.Core.Path.{_≡_}
 use Prim.Native.Nat.{ℕ, zero, suc, _+_, _-_, _*_, max}

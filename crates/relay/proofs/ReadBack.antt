@@ -12,7 +12,7 @@ use Rattle.frame.specs.declared.Fields.{Fields}
 use Rattle.frame.specs.declared.Reading.{Reading}
 use Rattle.frame.specs.declared.Span.{Span}
 use Rattle.frame.specs.declared.Stream.{Stream}
-use Rattle.frame.specs.Frame.{nstOf, ficlOf, ficlBy, streamOf, streamsTo, streamsOf, stlTotal, mainSpan, ficSpan, streamSpan, mainOf, cut}
+use Rattle.frame.specs.Frame.{nstOf, ficlOf, ficlBy, streamOf, streamsTo, stlTotal, mainSpan, ficSpan, streamSpan, cut}
 use Rattle.frame.specs.Rules.{refusalOf, Acceptable, streamRefusalOf, granted, mainPart, ficPart, streamPart}
 use Rattle.frame.specs.Answers.{noStream, tableBy, Reads}
 use Rattle.frame.specs.Writing.{entriesOf, ficlIn, writingRefusalOf, frameIn, writtenOf, Writes}

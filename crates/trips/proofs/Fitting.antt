@@ -1,10 +1,9 @@
 -- From a frame's words to its fields: a word put together from values is read as those values.
 -- Assumes nothing.
 use mathlib.Core.List.{List, [], _∷_}
-use mathlib.Core.Path.{_≡_, refl, sym, ap, _∙_}
+use mathlib.Core.Path.{_≡_, refl, ap, _∙_}
 use Prim.Native.Nat.{ℕ, zero, suc, _+_, _*_, _^_, _<_, _≤_}
 use native.Mathlib.Nat.{le-of-lt}
-use native.Mathlib.Omega.{arith}
 use lib.Dec.{lit<}
 use lib.ListN.{length, getD, take}
 use lib.Seq.{take-suc}
@@ -14,7 +13,7 @@ use Rattle.frame.specs.declared.Stream.{Stream}
 use Rattle.octets.specs.Words.{split, join, Fit, wordAt}
 use Rattle.octets.specs.Choice.{placeIn}
 use Rattle.frame.specs.Frame.{syncWidths, errOf, fsyncOf, statusBy, fsyncBy, fcWidths, fcOf, fctOf, ficfOf, nstOf, fpOf, midOf, flOf, sstcWidths, streamOf, streamsTo, eohWidths, eohOf, mnscOf, headerSumOf, eofWidths, eofOf, mainSumOf, rfuOf, tistWidths, tistOf, rfaOf, timeOf, statuses, mainOf, levelBy, levelOf}
-use Rattle.frame.specs.Answers.{digit, noStream}
+use Rattle.frame.specs.Answers.{noStream}
 use Rattle.frame.specs.Writing.{streamValues, Clean}
 use Rattle.octets.proofs.SplitJoin.{split-fit, split-join}
 use Rattle.trips.proofs.Writable.{plainWidths}

@@ -2,8 +2,8 @@
 -- Assumes nothing.
 use mathlib.Core.Bool.{Bool, true, false}
 use mathlib.Core.List.{List, [], _∷_, _++_}
-use mathlib.Core.Path.{_≡_, refl, sym, ap, ap₂, subst, _∙_}
-use Prim.Native.Nat.{ℕ, zero, suc, _+_, _*_, _^_, _<_, _≤_}
+use mathlib.Core.Path.{_≡_, sym, ap, ap₂, subst, _∙_}
+use Prim.Native.Nat.{ℕ, zero, suc, _+_, _*_, _≤_}
 use native.Mathlib.Omega.{arith}
 use lib.Dec.{eqb}
 use lib.ListN.{length, length-take, length-drop}
@@ -13,7 +13,7 @@ use Rattle.frame.specs.declared.Stream.{Stream}
 use Rattle.frame.specs.declared.Timestamp.{Timestamp}
 use Rattle.octets.specs.Words.{Fit, wordAt}
 use Rattle.octets.specs.Choice.{placeIn}
-use Rattle.frame.specs.Frame.{statuses, errOf, nstOf, flOf, ficlBy, ficlOf, sstcWidths, streamOf, streamsTo, streamsOf, stlTotal, mainOf, mainSumOf, tistWidths, timeOf, levelBy, levelOf}
+use Rattle.frame.specs.Frame.{statuses, errOf, nstOf, ficlBy, ficlOf, sstcWidths, streamOf, streamsTo, streamsOf, stlTotal, mainOf, mainSumOf, timeOf, levelBy, levelOf}
 use Rattle.frame.specs.Rules.{someStlAbove, refusalOf, Acceptable}
 use Rattle.frame.specs.Answers.{timestampFor, fieldsOf}
 use Rattle.frame.specs.Writing.{entriesOf, valuesIn, timeWider, streamValues, writingRefusalOf}

@@ -6,7 +6,7 @@ use Rattle.controller.proofs.put_answer.Tie as tie
 returns : tie.Need-returns
 returns c =
     let start = c .before .before .before .before .before .before .before .before .before .before .before .before .before in
-    parts (start .args .h) (start .args .table) (start .args .out .now) _ _ _ (start .pre .0) (c .before .before .put-table .ensures .1) (c .before .before .before .before .before .before .before .before .before .before .put-first .ensures) (c .before .before .before .before .before .before .put-second .ensures) (c .before .before .put-table .ensures .0)
+    parts (start .args .h) (start .args .table) (start .args .out .now) _ _ _ (start .pre) (c .before .before .put-table .ensures .1) (c .before .before .before .before .before .before .before .before .before .before .put-first .ensures) (c .before .before .before .before .before .before .put-second .ensures) (c .before .before .put-table .ensures .0)
 
 pub put-answer-spec : {M : Type 1} → statement M
 put-answer-spec =

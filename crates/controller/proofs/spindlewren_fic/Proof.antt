@@ -1,6 +1,6 @@
 use mathlib.Core.Path.{ap, _∙_}
 use Rattle.controller.specs.Boundary.{partBytes}
-use Rattle.controller.proofs.Telling.{wrong-length, told-refused, told-given, fic-short}
+use Rattle.controller.proofs.Telling.{wrong-length, told-refused, told-given}
 use borrow.Author.Needs.{needs}
 use Rattle.controller.proofs.spindlewren_fic.Statement.{statement}
 use Rattle.controller.proofs.spindlewren_fic.Tie as tie
@@ -10,10 +10,6 @@ returns c = wrong-length 4 _ _ _ (c .if1 .taken)
 
 returns-2 : tie.Need-returns-2
 returns-2 c = told-refused 4 _ _ _ (search needs) _ (c .before .fic-refusal .ensures) (c .if2 .taken)
-
-put-part-requires : tie.Need-put-part-requires
-put-part-requires c κs =
-    (search needs, rw (c .fic-place .ensures) (fic-short _ _ (c .before .before .before .fic-refusal .ensures) (c .before .before .if2 .left)))
 
 returns-3 : tie.Need-returns-3
 returns-3 c =
@@ -27,6 +23,6 @@ spindlewren-fic-spec =
     (λ c κs. search needs)
     returns-2
     (λ c κs. search needs)
-    put-part-requires
+    (λ c κs. search needs)
     (λ c. search needs)
     returns-3)

@@ -1,15 +1,10 @@
-use Rattle.controller.proofs.Telling.{wrong-length, refused, accepted, time-fits}
+use Rattle.controller.proofs.Telling.{wrong-length, refused, accepted}
 use borrow.Author.Needs.{needs}
 use Rattle.controller.proofs.spindlewren_read.Statement.{statement}
 use Rattle.controller.proofs.spindlewren_read.Tie as tie
 
 returns : tie.Need-returns
 returns c = wrong-length 402 _ _ _ (c .if1 .taken)
-
-put-answer-requires : tie.Need-put-answer-requires
-put-answer-requires c κs =
-    let start = c .before .before .before .before .before .before .before .before .before in
-    (search needs, time-fits (start .args .frame .now) (start .args .answer .now) (search needs) (c .before .before .before .before .before .read .result) (c .before .before .before .before .before .read .ensures) _ (c .before .before .told .given .1))
 
 returns-2 : tie.Need-returns-2
 returns-2 c =
@@ -28,7 +23,7 @@ spindlewren-read-spec =
     returns
     (λ c κs. search needs)
     (λ c. search needs)
-    put-answer-requires
+    (λ c κs. search needs)
     (λ c. search needs)
     (λ c. search needs)
     returns-2

@@ -1,4 +1,3 @@
-use mathlib.Core.List.{[], _∷_}
 use Rattle.entries.proofs.Entering.{ten-stored}
 use borrow.Author.Needs.{needs}
 use Rattle.entries.proofs.put_ten.Statement.{statement}
