@@ -1,7 +1,7 @@
--- The item of the n-th step is the n-th of the walk's items, and done after the last of them.
+-- The item of the n-th step is the n-th of the walk's items, and done after the last of them. The step that says done is what every later step hands back.
 -- Assumes nothing.
 use mathlib.Core.List.{List, [], _∷_, _++_}
-use mathlib.Core.Path.{_≡_, refl, ap, _∙_}
+use mathlib.Core.Path.{_≡_, refl, sym, ap, _∙_}
 use Prim.Native.Nat.{ℕ, zero, suc, _+_, _<_}
 use native.Mathlib.Omega.{arith}
 use lib.Dec.{lit<}
@@ -9,9 +9,10 @@ use lib.ListN.{length, getD, replicate}
 use Rattle.walk.specs.declared.Item.{Item}
 use Rattle.walk.specs.declared.Item.the-variants.{Done}
 use Rattle.walk.specs.declared.State.{State}
-use Rattle.walk.specs.Walk.{begin, items, rest, calls}
+use Rattle.walk.specs.Walk.{Stepped, begin, items, rest, stepOf, calls}
+use Rattle.walk.specs.declared.Step.{Step}
 use Rattle.walk.specs.Records.{judged, stepWith, stepAt}
-use Rattle.walk.proofs.Ending.{calls-items}
+use Rattle.walk.proofs.Ending.{done-stays, calls-items}
 use Rattle.walker.specs.Advance.{stateAfter, nthOf, itemOf}
 
 -- of any more than n calls, the n-th
@@ -37,3 +38,16 @@ nth-item bytes n =
     called bytes n (length (items R begin) + suc n) begin d (omega arith)
     ∙ ap (λ (l : List Item). getD l n d) (calls-items R (lit< tt) begin (suc n))
     ∙ padded (items R begin) (suc n) n d
+
+said-again : (bytes : List ℕ) (s : State) (p : ℕ) → stepAt 3 bytes s .item ≡ Done p → stepAt 3 bytes (stepAt 3 bytes s .walk) ≡ stepAt 3 bytes s
+unfolding judged stepAt stepWith
+said-again bytes s p e =
+    ap (λ (x : Stepped). stepWith bytes (x .item) (x .walk)) (done-stays (judged 3 bytes) (lit< tt) s p e .1)
+    ∙ ap (λ (x : Item). stepWith bytes x (stepOf (judged 3 bytes) s .walk)) (sym e)
+
+pub done-on : (bytes : List ℕ) (m : ℕ) (s : State) (p : ℕ) → stepAt 3 bytes s .item ≡ Done p → stepAt 3 bytes (stateAfter bytes m s) ≡ stepAt 3 bytes s
+unfolding stateAfter
+done-on bytes zero s p e = refl
+done-on bytes (suc m) s p e =
+    let same = said-again bytes s p e in
+    done-on bytes m (stepAt 3 bytes s .walk) p (ap (λ (x : Step). x .item) same ∙ e) ∙ same

@@ -1,1 +1,2 @@
 pub mod Advance
+pub mod Inner

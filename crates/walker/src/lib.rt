@@ -3,6 +3,7 @@
 ghost use mathlib.Core.Path.{_≡_};
 ghost use Rattle.frame.specs.Answers.{PartAt};
 ghost use Rattle.walker.specs.Advance.{periodPart, FrameAt, begun, advanced, nthOf, itemOf};
+ghost use Rattle.walker.specs.Inner.{endsAt};
 use frame::Stream;
 use walk::Item;
 use walk::State;
@@ -74,7 +75,19 @@ impl<'a> Walk<'a> {
     }
 }
 
+// No step is left, or done is said, which every later step would say again.
+fn ends(left: usize, item: Item) -> bool
+    ensures { λ r. ⌜ r ≡ endsAt left item ⌝ }
+{
+    match item {
+        Item::Frame(_, _) => left == 0,
+        Item::Lost(_, _) => left == 0,
+        Item::Done(_) => true,
+    }
+}
+
 // What the step after n steps hands back, from the beginning of the record: its item is the n-th of the record's walk.
+// No step is taken after done, however large n is.
 pub fn nth(record: &[u8], n: usize) -> Step
     ensures { λ r. ⌜ (r ≡ nthOf (now («record» .entry)) n) × (r .item ≡ itemOf (now («record» .entry)) n) ⌝ }
 {
@@ -82,7 +95,7 @@ pub fn nth(record: &[u8], n: usize) -> Step
     let mut left = n;
     loop {
         let a = w.step();
-        if left == 0 {
+        if ends(left, a.item) {
             return Step {
                 item: a.item,
                 table: a.table,

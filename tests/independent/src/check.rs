@@ -261,12 +261,13 @@ impl Case<'_> {
         }
     }
 
-    /// Items by their number: the first, any, the last, and some beyond the end.
+    /// Items by their number: the first, any, the last, some beyond the end, and the largest number, which must not take its steps.
     fn items(&mut self, record: &[u8], items: usize) -> Checked<()> {
         let any = self.random.within(0, items);
         let beyond = items + self.random.within(1, MOST_BEYOND);
-        for n in [0, any, items.saturating_sub(1), items, beyond] {
-            let expected = Ok(abi::item_bytes(&nth(record, n)));
+        for n in [0, any, items.saturating_sub(1), items, beyond, usize::MAX] {
+            // Done stays done, so this implementation need not take its steps either.
+            let expected = Ok(abi::item_bytes(&nth(record, n.min(beyond))));
             self.answer(&format!("item {n}"), abi::ITEM, expected, |answer| {
                 abi::nth(record, n, answer)
             })?;
