@@ -1,6 +1,6 @@
 // The words of a frame, each as its fields: total, with 0 for what lies beyond the bytes lent.
 ghost use mathlib.Core.Path.{_≡_};
-ghost use Prim.Native.Nat.{_<_, _≤_};
+ghost use Prim.Native.Nat.{_≤_};
 ghost use Rattle.sum.specs.Sum.{digit};
 ghost use Rattle.octets.specs.Choice.{placeIn};
 ghost use Rattle.frame.specs.Frame.{statuses, fsyncs, ficlBy, streamBy, streamOf, IsSync, IsFc, IsEoh, IsEof, IsTist};
@@ -36,7 +36,6 @@ pub fn fc(frame: &[u8]) -> Fc
 }
 
 fn stream(w: usize) -> Stream
-    requires { ⌜ w < 4294967296 ⌝ }
     ensures { λ r. ⌜ r ≡ streamBy w ⌝ }
 {
     Stream {

@@ -2,13 +2,14 @@
 -- Assumes nothing.
 use mathlib.Core.List.{List, [], _∷_, _++_, append-assoc, append-nil}
 use mathlib.Core.Path.{_≡_, refl, sym, ap, ap₂, _∙_}
-use Prim.Native.Nat.{ℕ, suc, _+_, _*_, _/_, _%_, _≤_, _<_}
-use native.Mathlib.Nat.{zero-add, add-assoc, mul-zero, mul-suc, mul-le-mul-left}
+use Prim.Native.Nat.{ℕ, suc, _+_, _*_, _/_, _%_, _^_, _≤_, _<_}
+use native.Mathlib.Nat.{zero-add, add-assoc, div-one, div-div-eq-div-mul, mul-zero, mul-suc, mul-le-mul-left}
 use native.Mathlib.Numerals.{add-one}
 use native.Mathlib.Omega.{arith}
 use borrow.Author.Tests.{le-leb, lt-leb}
 use lib.ListN.{length, getD, take, drop, set, length-set, length-append, length-drop}
 use lib.Seq.{length-take-le, take-at, drop-at, drop-drop, drop-length, take-suc, sets-eq}
+use Rattle.octets.specs.Words.{split, bytes4, bytes8}
 use Rattle.octets.specs.Stores.{put, bytesOfEach}
 
 module _ (l : List ℕ) (at : ℕ) (us : List ℕ) (h : at + length us ≤ length l) where
@@ -94,6 +95,10 @@ stores-all l v vs e = stores l 0 v vs (omega arith) ∙ put-all l (v ∷ vs) (om
 
 pub low-byte : (n : ℕ) → n % 256 ≡ n / 1 % 256
 low-byte n = omega arith
+
+-- eight bytes are those of the high word and those of the low
+pub words-bytes : (n : ℕ) → split bytes4 (n / 2 ^ 32) ++ split bytes4 n ≡ split bytes8 n
+words-bytes n = rw (div-div-eq-div-mul n (2 ^ 32) (2 ^ 24), div-div-eq-div-mul n (2 ^ 32) (2 ^ 16), div-div-eq-div-mul n (2 ^ 32) (2 ^ 8), div-one (n / 2 ^ 32))
 
 -- a turn of a loop that stores one element more
 pub put-more : (l : List ℕ) (at : ℕ) (us : List ℕ) (v : ℕ) → at + length us < length l → set (put l at us) (at + length us) v ≡ put l at (us ++ (v ∷ []))

@@ -95,12 +95,6 @@ pub fn put8(out: &mut [u8], at: usize, n: usize)
     if at > len - 8 {
         return;
     }
-    out[at] = (n / 72057594037927936 % 256) as u8;
-    out[at + 1] = (n / 281474976710656 % 256) as u8;
-    out[at + 2] = (n / 1099511627776 % 256) as u8;
-    out[at + 3] = (n / 4294967296 % 256) as u8;
-    out[at + 4] = (n / 16777216 % 256) as u8;
-    out[at + 5] = (n / 65536 % 256) as u8;
-    out[at + 6] = (n / 256 % 256) as u8;
-    out[at + 7] = (n % 256) as u8;
+    put4(out, at, n / 4294967296);
+    put4(out, at + 4, n);
 }

@@ -1,8 +1,6 @@
-use mathlib.Core.List.{[], _∷_}
-use native.Mathlib.Omega.{arith}
-use lib.ListN.{length-set}
+use mathlib.Core.Path.{refl}
+use Rattle.octets.proofs.Storing.{put-chain, put-short, words-bytes}
 use borrow.Author.Needs.{needs}
-use Rattle.octets.proofs.Storing.{stores, put-short, low-byte}
 use Rattle.octets.proofs.put8.Statement.{statement}
 use Rattle.octets.proofs.put8.Tie as tie
 
@@ -12,61 +10,10 @@ returns c = put-short _ _ _ (search needs)
 returns-2 : tie.Need-returns-2
 returns-2 c = put-short _ _ _ (search needs)
 
-slice-write-out-2 : tie.Need-slice-write-out-2
-slice-write-out-2 c = simp length-set (omega arith)
-
-slice-write-out-3 : tie.Need-slice-write-out-3
-slice-write-out-3 c = simp length-set (omega arith)
-
-slice-write-out-4 : tie.Need-slice-write-out-4
-slice-write-out-4 c = simp length-set (omega arith)
-
-slice-write-out-5 : tie.Need-slice-write-out-5
-slice-write-out-5 c = simp length-set (omega arith)
-
-slice-write-out-6 : tie.Need-slice-write-out-6
-slice-write-out-6 c = simp length-set (omega arith)
-
-slice-write-out-7 : tie.Need-slice-write-out-7
-slice-write-out-7 c = simp length-set (omega arith)
-
-slice-write-out-8 : tie.Need-slice-write-out-8
-slice-write-out-8 c = simp length-set (omega arith)
-
-same-length : tie.Need-same-length
-same-length c = simp length-set
-
 returns-3 : tie.Need-returns-3
-returns-3 c = rw (low-byte (c .before .before .args .n)) (stores _ _ _ (_ ∷ _ ∷ _ ∷ _ ∷ _ ∷ _ ∷ _ ∷ []) (search needs))
+returns-3 c = rw (words-bytes (c .before .before .before .before .before .before .before .before .before .before .before .args .n)) at (put-chain _ _ _ _ _ _ _ (c .before .before .before .before .before .before .put4 .ensures) (c .before .before .put42 .ensures) refl (search needs))
 
 pub put8-spec : {M : Type 1} → statement M
 put8-spec =
     tie.close
-    (tie.spec
-    returns
-    returns-2
-    (λ c. search needs)
-    (λ c. search needs)
-    (λ c. search needs)
-    (λ c. search needs)
-    slice-write-out-2
-    (λ c. search needs)
-    (λ c. search needs)
-    slice-write-out-3
-    (λ c. search needs)
-    (λ c. search needs)
-    slice-write-out-4
-    (λ c. search needs)
-    (λ c. search needs)
-    slice-write-out-5
-    (λ c. search needs)
-    (λ c. search needs)
-    slice-write-out-6
-    (λ c. search needs)
-    (λ c. search needs)
-    slice-write-out-7
-    (λ c. search needs)
-    (λ c. search needs)
-    slice-write-out-8
-    same-length
-    returns-3)
+    (tie.spec returns returns-2 (λ c κs. search needs) (λ c. search needs) (λ c κs. search needs) (λ c. search needs) returns-3)
