@@ -20,34 +20,34 @@ use Rattle.walk.specs.Records.{judged, stepWith, stepAt}
 use Rattle.walk.proofs.Misses.{misses-within}
 
 -- ---- the three outcomes of an export with n answer bytes
-module _ (n refusal : ℕ) (bytes before : List ℕ) where
-  pub wrong-length : (length before ≡ n → ⊥) → Told n refusal bytes before before 1
-  wrong-length h = let y = ne-eqb (length before) n h in record { number = rw y; answer = rw y }
+module _ (n refusal : ℕ) (bytes was : List ℕ) where
+  pub wrong-length : (length was ≡ n → ⊥) → Told n refusal bytes was was 1
+  wrong-length h = let y = ne-eqb (length was) n h in record { number = rw y; answer = rw y }
 
-  module _ (whole : length before ≡ n) (r : ℕ) (e : r ≡ refusal) where
-    own : lentRefusal n (length before) refusal ≡ refusal
-    own = rw (eq-eqb (length before) n whole)
+  module _ (whole : length was ≡ n) (r : ℕ) (e : r ≡ refusal) where
+    own : lentRefusal n (length was) refusal ≡ refusal
+    own = rw (eq-eqb (length was) n whole)
 
-    pub told-refused : (r ≡ 0 → ⊥) → Told n refusal bytes before before r
-    told-refused h = record { number = e ∙ sym own; answer = rw (ne-eqb (lentRefusal n (length before) refusal) 0 (λ z. h (e ∙ sym own ∙ z))) }
+    pub told-refused : (r ≡ 0 → ⊥) → Told n refusal bytes was was r
+    told-refused h = record { number = e ∙ sym own; answer = rw (ne-eqb (lentRefusal n (length was) refusal) 0 (λ z. h (e ∙ sym own ∙ z))) }
 
-    pub told-given : r ≡ 0 → (after : List ℕ) → after ≡ bytes → Told n refusal bytes before after 0
-    told-given z after p =
+    pub told-given : r ≡ 0 → (left : List ℕ) → left ≡ bytes → Told n refusal bytes was left 0
+    told-given z left p =
         let o = own ∙ sym e ∙ z in
-        record { number = sym o; answer = p ∙ (rw (eq-eqb (lentRefusal n (length before) refusal) 0 o)) }
+        record { number = sym o; answer = p ∙ (rw (eq-eqb (lentRefusal n (length was) refusal) 0 o)) }
 
 -- ---- reading
-module _ (f before : List ℕ) (whole : length before ≡ 402) (r : Reading) (reads : Reads f r) where
-  pub refused : (n : ℕ) → r .answer ≡ Refused n → Told 402 (refusalOf f) (answerOf f) before before n
-  refused n e = told-refused 402 (refusalOf f) (answerOf f) before whole n (got-refused f r reads n e) (got-nonzero f r reads n e)
+module _ (f was : List ℕ) (whole : length was ≡ 402) (r : Reading) (reads : Reads f r) where
+  pub refused : (n : ℕ) → r .answer ≡ Refused n → Told 402 (refusalOf f) (answerOf f) was was n
+  refused n e = told-refused 402 (refusalOf f) (answerOf f) was whole n (got-refused f r reads n e) (got-nonzero f r reads n e)
 
-  pub accepted : (h : Header) → r .answer ≡ Accepted h → (after : List ℕ) → after ≡ encode headCounts (headerValues h) ++ tableBytes (r .table) → Told 402 (refusalOf f) (answerOf f) before after 0
+  pub accepted : (h : Header) → r .answer ≡ Accepted h → (left : List ℕ) → left ≡ encode headCounts (headerValues h) ++ tableBytes (r .table) → Told 402 (refusalOf f) (answerOf f) was left 0
   unfolding answerOf
-  accepted h e after p =
+  accepted h e left p =
       let z = got-number f r reads h e in
       let v : headerValues h ≡ fieldsOf f = ap headerValues (got-header f r reads h e) ∙ header-values f (acceptable f z) in
       let w = ap₂ (λ vs ts. encode headCounts vs ++ tableBytes ts) v (got-table f r reads h e) in
-      told-given 402 (refusalOf f) (answerOf f) before whole 0 (sym z) refl after (p ∙ w)
+      told-given 402 (refusalOf f) (answerOf f) was whole 0 (sym z) refl left (p ∙ w)
 
 -- ---- the walk's state
 pub lock-wide : (w : List ℕ) → 1 < getD w 9 0 → 12 ≡ stateRefusalOf w

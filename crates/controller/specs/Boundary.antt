@@ -93,10 +93,10 @@ stateRefusalOf w = first ((12 when ltb 1 (getD w 9 0)) ∷ [])
 abbrev pub lentRefusal : ℕ → ℕ → ℕ → ℕ
 lentRefusal n len refusal = pick (eqb len n) refusal 1
 
--- an export answers r and leaves `after` in its n answer bytes that held `before`: `bytes`, or, refused, what they held
-pub record Told (n refusal : ℕ) (bytes before after : List ℕ) (r : ℕ) : Type 0 where
-  pub number : r ≡ lentRefusal n (length before) refusal
-  pub answer : after ≡ pick (eqb (lentRefusal n (length before) refusal) 0) bytes before
+-- an export answers r and leaves `left` in its n answer bytes that held `was`: `bytes`, or, refused, what they held
+pub record Told (n refusal : ℕ) (bytes was left : List ℕ) (r : ℕ) : Type 0 where
+  pub number : r ≡ lentRefusal n (length was) refusal
+  pub answer : left ≡ pick (eqb (lentRefusal n (length was) refusal) 0) bytes was
 
 -- ---- a walk from C: the bytes that calls of the step leave, one after another; each call is lent the bytes that the call before it left
 pub data Called (bytes : List ℕ) : List ℕ → List (List ℕ) → Type 0 where

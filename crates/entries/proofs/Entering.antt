@@ -23,12 +23,12 @@ unfolding entriesTo
 entries-length b zero = refl
 entries-length b (suc n) = rw (length-append, entries-length b n) (add-one n)
 
-module _ (b main before : List ℕ) where
-  pub wrong-length : (length b ≡ 401 → ⊥) → Entered b main before before 1
+module _ (b main was : List ℕ) where
+  pub wrong-length : (length b ≡ 401 → ⊥) → Entered b main was was 1
   wrong-length h = let y = ne-eqb (length b) 401 h in record { number = rw y; output = rw y }
 
-  pub entered : length b ≡ 401 → (after : List ℕ) (r : ℕ) → Writes (fieldsIn b) main before after r → Entered b main before after r
-  entered h after r w =
+  pub entered : length b ≡ 401 → (left : List ℕ) (r : ℕ) → Writes (fieldsIn b) main was left r → Entered b main was left r
+  entered h left r w =
       let y = eq-eqb (length b) 401 h in
       record { number = w .number ∙ (rw y); output = w .output ∙ (rw y) }
 

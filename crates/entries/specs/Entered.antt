@@ -46,6 +46,6 @@ fieldsIn b =
     }
 
 -- field bytes of another length are refused with 1, and the output is as it was
-pub record Entered (b main before after : List ℕ) (r : ℕ) : Type 0 where
-  pub number : r ≡ pick (eqb (length b) 401) (writingRefusalOf (fieldsIn b) (length main) (length before)) 1
-  pub output : after ≡ pick (eqb (length b) 401) (writtenOf (fieldsIn b) main before) before
+pub record Entered (b main was left : List ℕ) (r : ℕ) : Type 0 where
+  pub number : r ≡ pick (eqb (length b) 401) (writingRefusalOf (fieldsIn b) (length main) (length was)) 1
+  pub output : left ≡ pick (eqb (length b) 401) (writtenOf (fieldsIn b) main was) was

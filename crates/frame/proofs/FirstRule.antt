@@ -22,34 +22,34 @@ Numbered ((n when b) ∷ rs) = T (ltb 0 n) × Numbered rs
 
 -- rule n holds, and no earlier one
 pub record FirstToHold (rs : List Rule) (n : ℕ) : Type 0 where
-  pub before : List Rule
-  pub after : List Rule
-  pub stands : rs ≡ before ++ ((n when true) ∷ after)
-  pub none : NoneHold before
+  pub earlier : List Rule
+  pub later : List Rule
+  pub stands : rs ≡ earlier ++ ((n when true) ∷ later)
+  pub none : NoneHold earlier
 
-pub given : (before : List Rule) (n : ℕ) (after : List Rule) → NoneHold before → first (before ++ ((n when true) ∷ after)) ≡ n
-given [] n after h = refl
-given ((m when b) ∷ before) n after h = rw (h .0) (given before n after (h .1))
+pub given : (earlier : List Rule) (n : ℕ) (later : List Rule) → NoneHold earlier → first (earlier ++ ((n when true) ∷ later)) ≡ n
+given [] n later h = refl
+given ((m when b) ∷ earlier) n later h = rw (h .0) (given earlier n later (h .1))
 
 -- 0 and no rule holds, or the number of the first that does
 abbrev pub Settled : List Rule → Type 0
 Settled rs = ((first rs ≡ 0) × NoneHold rs) ⊎ FirstToHold rs (first rs)
 
-later : (n : ℕ) (rs : List Rule) → Settled rs → Settled ((n when false) ∷ rs)
-later n rs (inl h) = inl (h .0, (refl, h .1))
-later n rs (inr h) =
+goes-on : (n : ℕ) (rs : List Rule) → Settled rs → Settled ((n when false) ∷ rs)
+goes-on n rs (inl h) = inl (h .0, (refl, h .1))
+goes-on n rs (inr h) =
     inr
     (record {
-      before = (n when false) ∷ h .before;
-      after = h .after;
+      earlier = (n when false) ∷ h .earlier;
+      later = h .later;
       stands = ap (λ (l : List Rule). (n when false) ∷ l) (h .stands);
       none = (refl, h .none);
     })
 
 pub only : (rs : List Rule) → Settled rs
 only [] = inl (refl, tt)
-only ((n when true) ∷ rs) = inr (record { before = []; after = rs; stands = refl; none = tt })
-only ((n when false) ∷ rs) = later n rs (only rs)
+only ((n when true) ∷ rs) = inr (record { earlier = []; later = rs; stands = refl; none = tt })
+only ((n when false) ∷ rs) = goes-on n rs (only rs)
 
 -- a first number that is 0, and one that is not, of rules that come before others
 passed : (b : Bool) (n m : ℕ) → T (ltb 0 n) → pick b n m ≡ 0 → (b ≡ false) × (m ≡ 0)

@@ -111,10 +111,10 @@ frameIn x main =
 unfoldable pub writtenOf : Fields → List ℕ → List ℕ → List ℕ
 writtenOf x main out = pick (eqb (writingRefusalOf x (length main) (length out)) 0) (frameIn x main) out
 
--- writing answers r and leaves `after` in the output that held `before`
-pub record Writes (x : Fields) (main before after : List ℕ) (r : ℕ) : Type 0 where
-  pub number : r ≡ writingRefusalOf x (length main) (length before)
-  pub output : after ≡ writtenOf x main before
+-- writing answers r and leaves `left` in the output that held `was`
+pub record Writes (x : Fields) (main was left : List ℕ) (r : ℕ) : Type 0 where
+  pub number : r ≡ writingRefusalOf x (length main) (length was)
+  pub output : left ≡ writtenOf x main was
 
 -- ---- what the round trips suppose of a frame: its elements are bytes; its main-stream sum is right and all its padding is 55
 abbrev pub Bytes : List ℕ → Type 0

@@ -91,24 +91,24 @@ main-for s r z p =
     q .bytes
 
 -- what writing answers of the fields that reading handed out is what relaying answers
-pub relays : (f : List ℕ) → refusalOf f ≡ 0 → Bytes f → (x : Fields) (m before after : List ℕ) (r : ℕ) → x ≡ fieldsFor f → m ≡ mainOf f → Writes x m before after r → Relays f before after r
+pub relays : (f : List ℕ) → refusalOf f ≡ 0 → Bytes f → (x : Fields) (m was left : List ℕ) (r : ℕ) → x ≡ fieldsFor f → m ≡ mainOf f → Writes x m was left r → Relays f was left r
 unfolding writtenOf
-relays f z b x m before after r p q v =
+relays f z b x m was left r p q v =
     let w =
-    subst (λ (k : List ℕ). Writes (fieldsFor f) k before after r) q (subst (λ (y : Fields). Writes y m before after r) p v) in
-    let n = number-for f z (length before) in
-    let y : (r ≡ 0) → writtenOf (fieldsFor f) (mainOf f) before ≡ frameIn (fieldsFor f) (mainOf f) =
-    λ e. rw (eq-eqb (writingRefusalOf (fieldsFor f) (length (mainOf f)) (length before)) 0 (sym (w .number) ∙ e)) in
+    subst (λ (k : List ℕ). Writes (fieldsFor f) k was left r) q (subst (λ (y : Fields). Writes y m was left r) p v) in
+    let n = number-for f z (length was) in
+    let y : (r ≡ 0) → writtenOf (fieldsFor f) (mainOf f) was ≡ frameIn (fieldsFor f) (mainOf f) =
+    λ e. rw (eq-eqb (writingRefusalOf (fieldsFor f) (length (mainOf f)) (length was)) 0 (sym (w .number) ∙ e)) in
     record { number = w .number ∙ n; output = w .output ∙ (rw n); same = λ e c. w .output ∙ y e ∙ same-for f z b c }
 
 -- refused by reading, nothing is written
-pub relay-refused : (f : List ℕ) (before : List ℕ) (n : ℕ) → n ≡ refusalOf f → (n ≡ 0 → ⊥) → Relays f before before n
+pub relay-refused : (f : List ℕ) (was : List ℕ) (n : ℕ) → n ≡ refusalOf f → (n ≡ 0 → ⊥) → Relays f was was n
 unfolding refusalOf relayRefusalOf
-relay-refused f before n e h =
-    let p : n ≡ relayRefusalOf f (length before) =
-    e ∙ sym (first-found (rulesOf f) ((1 when not (eqb (length before) 6144)) ∷ []) (λ z. h (e ∙ z))) in
+relay-refused f was n e h =
+    let p : n ≡ relayRefusalOf f (length was) =
+    e ∙ sym (first-found (rulesOf f) ((1 when not (eqb (length was) 6144)) ∷ []) (λ z. h (e ∙ z))) in
     record {
       number = p;
-      output = rw (ne-eqb (relayRefusalOf f (length before)) 0 (λ z. h (p ∙ z)));
+      output = rw (ne-eqb (relayRefusalOf f (length was)) 0 (λ z. h (p ∙ z)));
       same = λ z c. absurd (h z);
     }

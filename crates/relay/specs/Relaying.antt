@@ -40,8 +40,8 @@ fieldsFor f = fieldsWith (headerFor f) (tableBy (streamsOf f))
 unfoldable pub relayRefusalOf : List ℕ → ℕ → ℕ
 relayRefusalOf f out = first (rulesOf f ++ ((1 when not (eqb out 6144)) ∷ []))
 
--- relaying f answers r and leaves `after` in the output that held `before`; a clean frame comes out as it went in
-pub record Relays (f before after : List ℕ) (r : ℕ) : Type 0 where
-  pub number : r ≡ relayRefusalOf f (length before)
-  pub output : after ≡ pick (eqb (relayRefusalOf f (length before)) 0) (frameIn (fieldsFor f) (mainOf f)) before
-  pub same : r ≡ 0 → Clean f → after ≡ f
+-- relaying f answers r and leaves `left` in the output that held `was`; a clean frame comes out as it went in
+pub record Relays (f was left : List ℕ) (r : ℕ) : Type 0 where
+  pub number : r ≡ relayRefusalOf f (length was)
+  pub output : left ≡ pick (eqb (relayRefusalOf f (length was)) 0) (frameIn (fieldsFor f) (mainOf f)) was
+  pub same : r ≡ 0 → Clean f → left ≡ f

@@ -22,7 +22,7 @@ use Rattle.walk.specs.declared.Step.{Step}
 use Rattle.walk.specs.Walk.{Item, Frame, Lost, Done, Stepped, differ, confirmed, itemAt, keeps, stepOf, hunting, locked}
 use Rattle.walk.specs.Records.{part, judged, fsync1At, frameIn, tableOf, stepWith, stepAt}
 use Rattle.walk.specs.Truth.{Over}
-use Rattle.walk.specs.Inner.{NoneStands}
+use Rattle.walk.specs.StepClauses.{NoneStands}
 use Rattle.walk.proofs.ByRules.{confirmed-stands, not-standing, unfollowed}
 use Rattle.walk.proofs.Laws.{step-short, step-spent, step-kept, step-missed, step-last, step-confirmed, step-passed}
 

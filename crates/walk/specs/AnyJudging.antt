@@ -1,4 +1,4 @@
--- The words of demand 3 over any judging of places. The theorems over the limit go by them; those over bytes, in Demand3, rest on these.
+-- Nothing in this file need be believed: the words of demand 3 over any judging of places, by which the theorems over the limit go.
 -- Assumes nothing.
 use Prim.Native.Nat.{ℕ, zero, suc, _+_, _*_, _≤_, _<_}
 use mathlib.Core.Path.{_≡_}

@@ -4,4 +4,4 @@ pub mod AnyJudging
 pub mod Records
 pub mod Truth
 pub mod Demand3
-pub mod Inner
+pub mod StepClauses

@@ -8,7 +8,7 @@ ghost use Rattle.frame.specs.Rules.{refusalOf};
 ghost use Rattle.frame.specs.Answers.{Reads};
 ghost use Rattle.walk.specs.Walk.{Lost, Done, confirmed, locked, hunting};
 ghost use Rattle.walk.specs.Records.{part, judged, fsync1At, frameIn, stepWith, stepAt};
-ghost use Rattle.walk.specs.Inner.{NoneStands, Missed};
+ghost use Rattle.walk.specs.StepClauses.{NoneStands, Missed};
 use frame::Answer;
 use frame::Header;
 use frame::Reading;

@@ -1,2 +1,2 @@
 pub mod Advance
-pub mod Inner
+pub mod NthClauses

@@ -3,7 +3,7 @@
 ghost use mathlib.Core.Path.{_≡_};
 ghost use Rattle.frame.specs.Answers.{PartAt};
 ghost use Rattle.walker.specs.Advance.{periodPart, FrameAt, begun, advanced, nthOf, itemOf};
-ghost use Rattle.walker.specs.Inner.{endsAt};
+ghost use Rattle.walker.specs.NthClauses.{endsAt};
 use frame::Stream;
 use walk::Item;
 use walk::State;

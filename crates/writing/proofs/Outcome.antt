@@ -20,6 +20,6 @@ module _ (x : Fields) (main out : List ℕ) (n : ℕ) (e : n ≡ writingRefusalO
   unfolding writtenOf
   write-refused h = record { number = e; output = rw (ne-eqb (writingRefusalOf x (length main) (length out)) 0 (λ z. h (e ∙ z))) }
 
-  pub write-done : n ≡ 0 → (after : List ℕ) → after ≡ frameIn x main → Writes x main out after 0
+  pub write-done : n ≡ 0 → (left : List ℕ) → left ≡ frameIn x main → Writes x main out left 0
   unfolding writtenOf
-  write-done z after p = record { number = sym (sym e ∙ z); output = rw (eq-eqb (writingRefusalOf x (length main) (length out)) 0 (sym e ∙ z)) p }
+  write-done z left p = record { number = sym (sym e ∙ z); output = rw (eq-eqb (writingRefusalOf x (length main) (length out)) 0 (sym e ∙ z)) p }

@@ -3,7 +3,7 @@ use Prim.Native.Nat.{suc, _+_, _-_}
 use lib.ListN.{length}
 use native.Mathlib.Omega.{arith}
 use borrow.Author.Needs.{needs}
-use Rattle.walk.specs.Inner.{NoneStands}
+use Rattle.walk.specs.StepClauses.{NoneStands}
 use Rattle.walk.proofs.Stepping.{one-passed, then-passed}
 use Rattle.walk.proofs.next_mark.Statement.{statement}
 use Rattle.walk.proofs.next_mark.Tie as tie

@@ -1,7 +1,7 @@
 -- `walker::ends` meets its contract, item by item.
 -- Assumes nothing.
 use borrow.Author.Needs.{needs}
-use Rattle.walker.specs.Inner.{endsAt}
+use Rattle.walker.specs.NthClauses.{endsAt}
 use Rattle.walker.proofs.ends.Statement.{statement}
 use Rattle.walker.proofs.ends.Tie as tie
 

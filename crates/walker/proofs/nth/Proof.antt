@@ -58,7 +58,7 @@ use Rattle.walk.proofs.Step.Laws as S′
 use Rattle.walk.proofs.Item as I
 use Rattle.walk.proofs.Item.Laws as I′
 use Rattle.walker.specs.Advance.{FrameAt, begun, advanced, stateAfter, nthOf}
-use Rattle.walker.specs.Inner.{endsAt}
+use Rattle.walker.specs.NthClauses.{endsAt}
 use Rattle.walker.specs.declared.Walk.{Walk}
 use Rattle.walker.specs.declared.Advanced.{Advanced}
 use Rattle.walker.proofs.Held.{Good, start-good, val, on, α, αᵉ, D, L, OwnRecord, mach, Own, holds, typed}
