@@ -30,7 +30,7 @@ enum {
     SPINDLEWREN_MNSC = 9,   /* 2 */
     SPINDLEWREN_RFU = 11,   /* 2 */
     SPINDLEWREN_RFA = 13,
-    SPINDLEWREN_SORT = 14,  /* 0 no timestamp is given, 1 a time */
+    SPINDLEWREN_SORT = 14,  /* 0 no timestamp is given, 1 a time, 2 a reserved number */
     SPINDLEWREN_TIME = 15,  /* 3 */
     SPINDLEWREN_TABLE = 18, /* 64 entries of */
     SPINDLEWREN_ENTRY = 6   /* bytes */

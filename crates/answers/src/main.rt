@@ -14,6 +14,7 @@ fn sort(g: Given) -> usize {
     match timestamp {
         Timestamp::Absent => 0,
         Timestamp::Time(_) => 1,
+        Timestamp::Reserved(_) => 2,
     }
 }
 
@@ -48,7 +49,11 @@ fn timestamps() {
     let mut g = plain();
     line::plain(b"timestamp ffffff, sort", sort(g), 0);
     g.time = 0xfffffe;
-    line::plain(b"timestamp fffffe, sort", sort(g), 1);
+    line::plain(b"timestamp fffffe, sort", sort(g), 2);
+    g.time = 0xfa0000;
+    line::plain(b"timestamp fa0000, sort", sort(g), 2);
+    g.time = 16383999;
+    line::plain(b"timestamp f9ffff, sort", sort(g), 1);
 }
 
 fn table() -> [Stream; 64] {

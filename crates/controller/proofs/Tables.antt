@@ -12,7 +12,7 @@ use Rattle.octets.proofs.Storing.{put-chain, put-all, each-length, each-put}
 use Rattle.frame.specs.declared.Header.{Header}
 use Rattle.frame.specs.declared.Stream.{Stream}
 use Rattle.frame.specs.declared.Timestamp.{Timestamp}
-use Rattle.frame.specs.declared.Timestamp.the-variants.{Absent, Time}
+use Rattle.frame.specs.declared.Timestamp.the-variants.{Absent, Time, Reserved}
 use Rattle.frame.specs.Answers.{digit, sortOf, headerValues, noStream}
 use Rattle.walk.specs.declared.Item.{Item}
 use Rattle.walk.specs.declared.Item.the-variants.{Frame, Lost, Done}
@@ -28,6 +28,7 @@ digit-alone false = refl
 pub sort-alone : (t : Timestamp) → sortOf t / 1 % 256 ≡ sortOf t
 sort-alone Absent = refl
 sort-alone (Time n) = refl
+sort-alone (Reserved n) = refl
 
 pub kind-alone : (x : Item) → kindOf x / 1 % 256 ≡ kindOf x
 kind-alone (Frame p h) = refl

@@ -29,6 +29,7 @@ fn sort(t: Timestamp) -> u8
     match t {
         Timestamp::Absent => 0,
         Timestamp::Time(_) => 1,
+        Timestamp::Reserved(_) => 2,
     }
 }
 
@@ -38,6 +39,7 @@ fn time(t: Timestamp) -> u32
     match t {
         Timestamp::Absent => 0xFFFFFF,
         Timestamp::Time(n) => n,
+        Timestamp::Reserved(n) => n,
     }
 }
 

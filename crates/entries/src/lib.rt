@@ -22,7 +22,10 @@ fn timestamp(sort: u8, n: u32) -> Timestamp
     if sort == 0 {
         return Timestamp::Absent;
     }
-    Timestamp::Time(n)
+    if sort == 1 {
+        return Timestamp::Time(n);
+    }
+    Timestamp::Reserved(n)
 }
 
 fn entry(bytes: &[u8], i: usize) -> Stream

@@ -3,7 +3,7 @@
 use mathlib.Core.List.{List, [], _∷_, _++_}
 use mathlib.Core.Path.{_≡_}
 use Prim.Native.Nat.{ℕ, _+_, _-_}
-use lib.Dec.{eqb}
+use lib.Dec.{eqb, ltb}
 use lib.ListN.{length, replicate}
 use denote.Ref.{RefT, now}
 pub use Rattle.sum.specs.Sum.{digit}
@@ -14,30 +14,32 @@ use Rattle.frame.specs.declared.Reading.{Reading}
 use Rattle.frame.specs.declared.Span.{Span}
 use Rattle.frame.specs.declared.Stream.{Stream}
 use Rattle.frame.specs.declared.Timestamp.{Timestamp}
-use Rattle.frame.specs.declared.Timestamp.the-variants.{Absent, Time}
+use Rattle.frame.specs.declared.Timestamp.the-variants.{Absent, Time, Reserved}
 use Rattle.octets.specs.Choice.{pick, placeIn}
 use Rattle.frame.specs.Frame.{fsyncs, fsyncOf, fctOf, ficfOf, nstOf, fpOf, midOf, flOf, streamsOf, cut, mnscOf, rfuOf, rfaOf, timeOf, levelOf}
 use Rattle.frame.specs.Rules.{refusalOf}
 
--- annex C.2: a timestamp's sort, 0 where none is given and 1 for a time, and its number, FFFFFF where none is given
+-- annex C.2: a timestamp's sort, 0 where none is given, 1 for a time and 2 for a reserved number, and its number, FFFFFF where none is given
 abbrev pub sortOf : Timestamp → ℕ
 sortOf Absent = 0
 sortOf (Time n) = 1
+sortOf (Reserved n) = 2
 
 abbrev pub timeBy : Timestamp → ℕ
 timeBy Absent = 0xFFFFFF
 timeBy (Time n) = n
+timeBy (Reserved n) = n
 
 abbrev pub timestampValues : Timestamp → List ℕ
 timestampValues t = sortOf t ∷ timeBy t ∷ []
 
 -- the timestamp of a sort and a number
 unfoldable pub timestampBy : ℕ → ℕ → Timestamp
-timestampBy sort n = pick (eqb sort 0) Absent (Time n)
+timestampBy sort n = pick (eqb sort 0) Absent (pick (eqb sort 1) (Time n) (Reserved n))
 
--- the timestamp of the 24 bits: FFFFFF means that none is given, every other number is a time
+-- the timestamp of the 24 bits: FFFFFF means that none is given; 0 to F9FFFF is a time, FA0000 to FFFFFE is reserved
 unfoldable pub timestampFor : ℕ → Timestamp
-timestampFor n = pick (eqb n 0xFFFFFF) Absent (Time n)
+timestampFor n = pick (eqb n 0xFFFFFF) Absent (pick (ltb 0xF9FFFF n) (Reserved n) (Time n))
 
 abbrev pub headerValues : Header → List ℕ
 headerValues h =

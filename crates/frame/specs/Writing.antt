@@ -10,7 +10,7 @@ use Rattle.sum.specs.Sum.{sumOf}
 use Rattle.frame.specs.declared.Fields.{Fields}
 use Rattle.frame.specs.declared.Stream.{Stream}
 use Rattle.frame.specs.declared.Timestamp.{Timestamp}
-use Rattle.frame.specs.declared.Timestamp.the-variants.{Absent, Time}
+use Rattle.frame.specs.declared.Timestamp.the-variants.{Absent, Time, Reserved}
 use Rattle.octets.specs.Words.{split, join, bytes2, bytes4}
 use Rattle.octets.specs.Choice.{pick}
 use Rattle.octets.specs.Stores.{bytesOfEach}
@@ -40,10 +40,11 @@ someWider [] vs = false
 someWider (k ∷ ks) [] = false
 someWider (k ∷ ks) (v ∷ vs) = leb (2 ^ k) v || someWider ks vs
 
--- a time is below FFFFFF
+-- a number outside its sort's range: a time is at most F9FFFF, a reserved number FA0000 to FFFFFE
 abbrev pub timeWider : Timestamp → Bool
 timeWider Absent = false
-timeWider (Time n) = leb 0xFFFFFF n
+timeWider (Time n) = ltb 0xF9FFFF n
+timeWider (Reserved n) = ltb n 0xFA0000 || ltb 0xFFFFFE n
 
 abbrev pub streamValues : Stream → List ℕ
 streamValues s = s .scid ∷ s .sad ∷ s .tpl ∷ s .stl ∷ []

@@ -38,10 +38,11 @@ pub struct Tist {
     pub time: u32,
 }
 
-// The timestamp is of two sorts: none is given, or it is a time in periods of 16.384 MHz (annex C.2).
+// The timestamp is of three sorts (annex C.2): none is given, a time in periods of 16.384 MHz, or a reserved number, kept as it is.
 pub enum Timestamp {
     Absent,
     Time(u32),
+    Reserved(u32),
 }
 
 // The fields of an accepted frame. The sync word is FSYNC1 where fsync1 is set, else FSYNC0. The level is the one handed on.

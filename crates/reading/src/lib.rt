@@ -39,6 +39,9 @@ fn timestamp(n: u32) -> Timestamp
     if n == 0xFFFFFF {
         return Timestamp::Absent;
     }
+    if n > 0xF9FFFF {
+        return Timestamp::Reserved(n);
+    }
     Timestamp::Time(n)
 }
 

@@ -91,7 +91,8 @@ fn time_wider(timestamp: Timestamp) -> bool
 {
     match timestamp {
         Timestamp::Absent => false,
-        Timestamp::Time(n) => n >= 0xFFFFFF,
+        Timestamp::Time(n) => n > 0xF9FFFF,
+        Timestamp::Reserved(n) => (n < 0xFA0000) | (n > 0xFFFFFE),
     }
 }
 

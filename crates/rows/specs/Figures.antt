@@ -7,6 +7,7 @@ use lib.ListN.{replicate}
 use Rattle.sum.specs.Sum.{sumOf}
 use Rattle.frame.specs.declared.Span.{Span}
 use Rattle.octets.specs.Words.{split, join, bytes4}
+use Rattle.frame.specs.Answers.{timestampValues, timestampFor}
 use Rattle.frame.specs.Frame.{fcWidths, ficlBy, sstcWidths, flBy, ficSpan, streamSpan, carriedBy, levelBy}
 
 infix 20 _gives_
@@ -44,4 +45,8 @@ figures =
     ∷ (bytesOf sstcWidths (1 ∷ 54 ∷ 34 ∷ 24 ∷ []) gives 0x04 ∷ 0x36 ∷ 0x88 ∷ 0x18 ∷ [])
     ∷ (levelBy 0 false ∷ [] gives 2 ∷ [])
     ∷ (levelBy 3 false ∷ [] gives 3 ∷ [])
+    ∷ (0xF9FFFF ∷ timestampValues (timestampFor 0xF9FFFF) gives 16383999 ∷ 1 ∷ 0xF9FFFF ∷ [])
+    ∷ (timestampValues (timestampFor 0xFA0000) gives 2 ∷ 0xFA0000 ∷ [])
+    ∷ (timestampValues (timestampFor 0xFFFFFE) gives 2 ∷ 0xFFFFFE ∷ [])
+    ∷ (timestampValues (timestampFor 0xFFFFFF) gives 0 ∷ 0xFFFFFF ∷ [])
     ∷ []

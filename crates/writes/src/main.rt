@@ -113,8 +113,14 @@ fn wide_entries() {
 }
 
 fn wide_time() {
-    let x = fields(Timestamp::Time(0xffffff));
+    let mut x = fields(Timestamp::Time(0xffffff));
     refusal(b"the time ffffff", x, 288, 12);
+    x = fields(Timestamp::Time(0xfa0000));
+    refusal(b"the time fa0000", x, 288, 12);
+    x = fields(Timestamp::Reserved(0xf9ffff));
+    refusal(b"the reserved number f9ffff", x, 288, 12);
+    x = fields(Timestamp::Reserved(0xffffff));
+    refusal(b"the reserved number ffffff", x, 288, 12);
 }
 
 fn alone() {

@@ -19,6 +19,7 @@ fn time(timestamp: Timestamp) -> usize
     match timestamp {
         Timestamp::Absent => 0xFFFFFF,
         Timestamp::Time(n) => n as usize,
+        Timestamp::Reserved(n) => n as usize,
     }
 }
 

@@ -1,6 +1,6 @@
 //! The proved exports, called as C calls them, and the bytes they take and give.
 
-use crate::frame::{Reading, Stream, Table, Timestamp, NO_TIME};
+use crate::frame::{Reading, Stream, Table, Timestamp};
 use crate::walk::{Item, State};
 use crate::writing::Fields;
 
@@ -217,10 +217,12 @@ pub fn place_of(bytes: &[u8]) -> usize {
 }
 
 fn timestamp(timestamp: Timestamp) -> (u8, u32) {
-    match timestamp {
-        Timestamp::None => (0, NO_TIME),
-        Timestamp::Time(number) => (1, number),
-    }
+    let sort = match timestamp {
+        Timestamp::None => 0,
+        Timestamp::Time(_) => 1,
+        Timestamp::Reserved(_) => 2,
+    };
+    (sort, timestamp.number())
 }
 
 fn put_table(bytes: &mut Vec<u8>, table: &Table) {

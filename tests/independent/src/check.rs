@@ -190,12 +190,13 @@ impl Case<'_> {
     /// The field bytes, with other bytes where they mean the same.
     fn varied(&mut self, writing: &Writing) -> Vec<u8> {
         let mut bytes = abi::fields_bytes(&writing.fields);
-        let none = writing.fields.timestamp == Timestamp::None;
-        for flag in [1, 3, 12] {
+        for flag in [1, 3] {
             bytes[flag] *= self.random.within(1, 255) as u8;
         }
-        if none {
-            self.random.fill(&mut bytes[13..17]);
+        match writing.fields.timestamp {
+            Timestamp::None => self.random.fill(&mut bytes[13..17]),
+            Timestamp::Time(_) => {}
+            Timestamp::Reserved(_) => bytes[12] = self.random.within(2, 255) as u8,
         }
         bytes
     }

@@ -11,6 +11,8 @@ pub const MOST_STL: u16 = 684;
 pub const MOST_FL: usize = 1532;
 /// The timestamp number that means none is given.
 pub const NO_TIME: u32 = 0xFF_FFFF;
+/// The last number that is a time (annex C.2); from there to the one that means none, numbers are reserved.
+pub const LAST_TIME: u32 = 16_383_999;
 /// The logical frame begins behind status and sync word.
 pub const LOGICAL: usize = 4;
 /// Status bytes of levels 0 to 3 as clause 5.2 has them; the paper's copy swaps levels 1 and 2.
@@ -21,6 +23,24 @@ pub const SYNC: [[u8; 3]; 2] = [[0x07, 0x3A, 0xB6], [0xF8, 0xC5, 0x49]];
 pub enum Timestamp {
     None,
     Time(u32),
+    Reserved(u32),
+}
+
+impl Timestamp {
+    pub fn of(number: u32) -> Timestamp {
+        match number {
+            NO_TIME => Timestamp::None,
+            number if number <= LAST_TIME => Timestamp::Time(number),
+            number => Timestamp::Reserved(number),
+        }
+    }
+
+    pub fn number(self) -> u32 {
+        match self {
+            Timestamp::None => NO_TIME,
+            Timestamp::Time(number) | Timestamp::Reserved(number) => number,
+        }
+    }
 }
 
 #[derive(Clone, Copy, Debug, PartialEq, Eq)]
@@ -141,10 +161,7 @@ fn header(frame: &[u8]) -> Header {
         mnsc: two(frame, main_start(frame) - 4),
         rfu: two(frame, end + 2),
         rfa: frame[end + 4],
-        timestamp: match time {
-            NO_TIME => Timestamp::None,
-            _ => Timestamp::Time(time),
-        },
+        timestamp: Timestamp::of(time),
     }
 }
 

@@ -44,10 +44,9 @@ impl Fields {
     }
 
     fn too_wide(&self) -> bool {
-        let time_too_wide = match self.timestamp {
-            Timestamp::None => false,
-            Timestamp::Time(number) => number >= NO_TIME,
-        };
+        // A number outside its sort's range; beside 'none' no number stands.
+        let number = self.timestamp.number();
+        let time_too_wide = number > NO_TIME || Timestamp::of(number) != self.timestamp;
         self.level > 3
             || self.fp > 7
             || self.mid > 3
@@ -95,10 +94,7 @@ impl Fields {
     }
 
     fn time(&self) -> u32 {
-        match self.timestamp {
-            Timestamp::None => NO_TIME,
-            Timestamp::Time(number) => number,
-        }
+        self.timestamp.number()
     }
 }
 

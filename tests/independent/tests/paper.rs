@@ -237,3 +237,35 @@ fn any_state_is_taken() {
         }
     }
 }
+
+/// F9FFFF, 16,383,999 periods, is the last time; up to FFFFFE numbers are reserved and kept; FFFFFF is none.
+#[test]
+fn sorts_of_timestamps() {
+    for (number, timestamp) in [
+        (0xF9_FFFF, Timestamp::Time(16_383_999)),
+        (0xFA_0000, Timestamp::Reserved(0xFA_0000)),
+        (0xFF_FFFE, Timestamp::Reserved(0xFF_FFFE)),
+        (0xFF_FFFF, Timestamp::None),
+    ] {
+        let fields = Fields {
+            timestamp,
+            ..bare()
+        };
+        let frame = written(&fields).unwrap();
+        assert_eq!(frame[17..20], u32::to_be_bytes(number)[1..]);
+        assert_eq!(read(&frame).unwrap().header.timestamp, timestamp);
+    }
+    for timestamp in [
+        Timestamp::Time(0xFA_0000),
+        Timestamp::Reserved(0xF9_FFFF),
+        Timestamp::Reserved(0xFF_FFFF),
+    ] {
+        assert_eq!(
+            written(&Fields {
+                timestamp,
+                ..bare()
+            }),
+            Err(12)
+        );
+    }
+}

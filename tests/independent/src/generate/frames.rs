@@ -2,7 +2,7 @@
 
 use super::Random;
 use crate::frame::{
-    ficl, formula, Stream, FRAME, LOGICAL, MOST_FL, MOST_STL, NO_TIME, STATUS, SYNC,
+    ficl, formula, Stream, FRAME, LAST_TIME, LOGICAL, MOST_FL, MOST_STL, NO_TIME, STATUS, SYNC,
 };
 use crate::sum::sum;
 use crate::writing::PADDING;
@@ -332,7 +332,17 @@ pub fn entry(random: &mut Random, stl: u16) -> Stream {
 /// A timestamp's number, more often at the limits of its sorts.
 pub fn time(random: &mut Random) -> u32 {
     let any = random.number() as u32 & NO_TIME;
-    random.pick(&[NO_TIME, NO_TIME - 1, 0, 0xFF_FF00, 0x00_FFFF, any, any])
+    random.pick(&[
+        NO_TIME,
+        NO_TIME - 1,
+        LAST_TIME + 1,
+        LAST_TIME,
+        0,
+        0xFF_FF00,
+        0x00_FFFF,
+        any,
+        any,
+    ])
 }
 
 fn entry_bytes(stream: &Stream) -> [u8; 4] {

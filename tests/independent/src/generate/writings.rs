@@ -2,7 +2,7 @@
 
 use super::frames::{entry, fct, lengths, reaching, shape, time, Shape};
 use super::Random;
-use crate::frame::{ficl, Stream, Table, Timestamp, EMPTY, FRAME, NO_TIME};
+use crate::frame::{ficl, Stream, Table, Timestamp, EMPTY, FRAME, LAST_TIME, NO_TIME};
 use crate::writing::Fields;
 
 /// What is wrong with what is given to writing. Faults are made in this order.
@@ -85,10 +85,7 @@ fn valid(random: &mut Random) -> Fields {
         mnsc: random.number() as u16,
         rfu: random.pick(&[0xFFFF, 0, 0x9ABC]),
         rfa: random.pick(&[0xFF, 0, 0xDE]),
-        timestamp: match time(random) {
-            NO_TIME => Timestamp::None,
-            number => Timestamp::Time(number),
-        },
+        timestamp: Timestamp::of(time(random)),
         table: table(random, count, total),
     }
 }
@@ -124,8 +121,13 @@ fn spoil(fields: &mut Fields, fault: Fault, random: &mut Random) {
         WideFp => fields.fp = random.pick(&[8, 15, 255]),
         WideMid => fields.mid = random.pick(&[4, 7, 255]),
         WideTime => {
-            let number = random.pick(&[NO_TIME, NO_TIME + 1, u32::MAX]);
-            fields.timestamp = Timestamp::Time(number);
+            fields.timestamp = if random.one_in(2) {
+                let above = [LAST_TIME + 1, NO_TIME - 1, NO_TIME, NO_TIME + 1, u32::MAX];
+                Timestamp::Time(random.pick(&above))
+            } else {
+                let outside = [0, LAST_TIME, NO_TIME, NO_TIME + 1, u32::MAX];
+                Timestamp::Reserved(random.pick(&outside))
+            };
         }
         WideScid => counted(fields, random).scid = random.pick(&[63, 64, 128, 255]),
         WideSad => counted(fields, random).sad = random.pick(&[1023, 1024, 0xFFFF]),
