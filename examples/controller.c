@@ -64,6 +64,13 @@ static void sub_channels(const uint8_t *frame, uint64_t place) {
     }
 }
 
+/* Both main-stream sums beside a frame whose level they raised: it came with level 0 or 1, and they differ. */
+static void sums(const uint8_t *frame, const uint8_t *answer) {
+    unsigned sent = (unsigned)spindlewren_number(answer, SPINDLEWREN_SENT, 2);
+    unsigned worked = (unsigned)spindlewren_number(answer, SPINDLEWREN_WORKED, 2);
+    if (sent != worked && (frame[0] == 0xFF || frame[0] == 0xF0)) printf(" sum %04X, worked out %04X", sent, worked);
+}
+
 static void item_line(struct record record, const uint8_t *walk) {
     uint8_t answer[SPINDLEWREN_ANSWER];
     uint64_t place = spindlewren_number(walk, SPINDLEWREN_ITEM, 8);
@@ -72,8 +79,11 @@ static void item_line(struct record record, const uint8_t *walk) {
         printf("end %llu\n", (unsigned long long)place);
     else if (walk[SPINDLEWREN_KIND] == SPINDLEWREN_IS_LOST)
         printf("%llu lost %u - %s\n", (unsigned long long)place, lost, spindlewren_label((uint8_t)lost));
-    else if (spindlewren_read(record.bytes + place, SPINDLEWREN_FRAME, answer, sizeof answer) == 0)
-        printf("%llu frame %u %u\n", (unsigned long long)place, answer[SPINDLEWREN_FCT], answer[SPINDLEWREN_LEVEL]);
+    else if (spindlewren_read(record.bytes + place, SPINDLEWREN_FRAME, answer, sizeof answer) == 0) {
+        printf("%llu frame %u %u", (unsigned long long)place, answer[SPINDLEWREN_FCT], answer[SPINDLEWREN_LEVEL]);
+        sums(record.bytes + place, answer);
+        putchar('\n');
+    }
 }
 
 int main(int argc, char **argv) {

@@ -12,7 +12,7 @@ extern "C" {
 /* Bytes of a frame, and of what is lent for an answer. */
 enum {
     SPINDLEWREN_FRAME = 6144,
-    SPINDLEWREN_ANSWER = 402, /* spindlewren_read */
+    SPINDLEWREN_ANSWER = 406, /* spindlewren_read */
     SPINDLEWREN_PART = 4,     /* spindlewren_fic, spindlewren_stream */
     SPINDLEWREN_WALK = 20     /* spindlewren_step */
 };
@@ -32,7 +32,9 @@ enum {
     SPINDLEWREN_RFA = 13,
     SPINDLEWREN_SORT = 14,  /* 0 no timestamp is given, 1 a time, 2 a reserved number */
     SPINDLEWREN_TIME = 15,  /* 3 */
-    SPINDLEWREN_TABLE = 18, /* 64 entries of */
+    SPINDLEWREN_SENT = 18,  /* 2: the main-stream sum as sent */
+    SPINDLEWREN_WORKED = 20, /* 2: the main-stream sum as worked out */
+    SPINDLEWREN_TABLE = 22, /* 64 entries of */
     SPINDLEWREN_ENTRY = 6   /* bytes */
 };
 

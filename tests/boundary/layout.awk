@@ -23,12 +23,12 @@ function number(piece, from,    counts, values) {
     return lay(values, counts, from)
 }
 { left = $0; sub(/^.* = /, "", left) }
-/^(first|second|stream|marks)Values .* = / || /^(first|second|stream|marks)Counts = / { is[$1] = left }
+/^(first|second|third|stream|marks)Values .* = / || /^(first|second|third|stream|marks)Counts = / { is[$1] = left }
 /^partBytes .* = / { print "whole PART", number(left, 0) }
 /^stepBytes .* = / { steps = left }
 FILENAME !~ /Writing/ && match($0, /\([0-9]+ when /) { print "number", substr($0, RSTART + 1, RLENGTH - 7) }
 END {
-    table = lay(is["secondValues"], is["secondCounts"], lay(is["firstValues"], is["firstCounts"], 0))
+    table = lay(is["thirdValues"], is["thirdCounts"], lay(is["secondValues"], is["secondCounts"], lay(is["firstValues"], is["firstCounts"], 0)))
     entry = lay(is["streamValues"], is["streamCounts"], 0)
     print "whole TABLE", table
     print "whole ENTRY", entry

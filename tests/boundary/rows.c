@@ -62,8 +62,9 @@ static void build(const struct row *row, uint8_t *frame) {
     memcpy(frame, whole, SPINDLEWREN_FRAME);
 }
 
-static void expect(const struct row *row, uint8_t *answer) {
+static void expect(const struct row *row, const uint8_t *frame, uint8_t *answer) {
     size_t i;
+    unsigned worked = sum(frame, 12 + 4 * row->nst, 8 + 4 * row->fl);
     memset(answer, 0, SPINDLEWREN_ANSWER);
     answer[SPINDLEWREN_LEVEL] = (uint8_t)row->level;
     answer[SPINDLEWREN_FCT] = (uint8_t)row->fct;
@@ -76,6 +77,8 @@ static void expect(const struct row *row, uint8_t *answer) {
     put(answer, SPINDLEWREN_RFU, 2, 0xABCD);
     answer[SPINDLEWREN_RFA] = 0xEF;
     put(answer, SPINDLEWREN_TIME, 3, 0xFFFFFF);
+    put(answer, SPINDLEWREN_SENT, 2, worked ^ row->bad_main);
+    put(answer, SPINDLEWREN_WORKED, 2, worked);
     for (i = 0; i < row->nst; i++) {
         uint8_t *entry = answer + spindlewren_entry(i);
         entry[SPINDLEWREN_SCID] = (uint8_t)(i + 1);
@@ -98,7 +101,7 @@ void rows(void) {
         memset(answer, FILL, sizeof answer);
         hold(guarded(read_frame, frame, sizeof frame, 0, answer, sizeof answer) == row->number, row->name, i);
         if (row->number != 0) continue;
-        expect(row, expected);
+        expect(row, frame, expected);
         hold(memcmp(answer, expected, sizeof answer) == 0, row->name, i);
         parts(frame, expected);
     }

@@ -18,7 +18,7 @@ use Rattle.walk.specs.declared.Item.{Item}
 use Rattle.walk.specs.declared.Item.the-variants.{Frame, Lost, Done}
 use Rattle.walk.specs.declared.State.{State}
 use Rattle.walk.specs.ItemValues.{kindOf, placeOf}
-use Rattle.controller.specs.Boundary.{encode, headCounts, firstCounts, firstValues, secondCounts, secondValues, streamBytes, tableBytes, marksCounts, marksValues, stepBytes}
+use Rattle.controller.specs.Boundary.{encode, headCounts, firstCounts, firstValues, secondCounts, secondValues, thirdCounts, thirdValues, streamBytes, tableBytes, marksCounts, marksValues, stepBytes}
 
 -- a value of one byte is that byte
 pub digit-alone : (b : Bool) → digit b / 1 % 256 ≡ digit b
@@ -39,24 +39,27 @@ pub bytes-length : (ss : List Stream) → length (tableBytes ss) ≡ 6 * length 
 unfolding tableBytes
 bytes-length ss = each-length streamBytes 6 (λ s. refl) ss
 
-pub table-more : (l : List ℕ) (t : List Stream) (i : ℕ) → length l ≡ 402 → length t ≡ 64 → i < 64
-    → put (put l 18 (tableBytes (take i t))) (18 + 6 * i) (streamBytes (getD t i noStream)) ≡ put l 18 (tableBytes (take (i + 1) t))
+pub table-more : (l : List ℕ) (t : List Stream) (i : ℕ) → length l ≡ 406 → length t ≡ 64 → i < 64
+    → put (put l 22 (tableBytes (take i t))) (22 + 6 * i) (streamBytes (getD t i noStream)) ≡ put l 22 (tableBytes (take (i + 1) t))
 unfolding tableBytes
-table-more l t i h k o = each-put streamBytes 6 (λ s. refl) noStream l 18 t i (omega arith) (omega arith)
+table-more l t i h k o = each-put streamBytes 6 (λ s. refl) noStream l 22 t i (omega arith) (omega arith)
 
--- the two parts and the table are the whole answer
-pub parts : (h : Header) (t : List Stream) (l a b d : List ℕ) → length l ≡ 402 → length t ≡ 64
+-- the three parts and the table are the whole answer
+pub parts : (h : Header) (t : List Stream) (l a b c d : List ℕ) → length l ≡ 406 → length t ≡ 64
     → a ≡ put l 0 (encode firstCounts (firstValues h))
     → b ≡ put a 9 (encode secondCounts (secondValues h))
-    → d ≡ put b 18 (tableBytes t)
+    → c ≡ put b 18 (encode thirdCounts (thirdValues h))
+    → d ≡ put c 22 (tableBytes t)
     → d ≡ encode headCounts (headerValues h) ++ tableBytes t
-parts h t l a b d o k pa pb pd =
+parts h t l a b c d o k pa pb pc pd =
     let A = encode firstCounts (firstValues h) in
     let B = encode secondCounts (secondValues h) in
+    let C = encode thirdCounts (thirdValues h) in
     let n = bytes-length t in
     let p = put-chain l a b 0 9 A B pa pb refl (omega arith) in
-    let q = put-chain l b d 0 18 (A ++ B) (tableBytes t) p pd refl (omega arith) in
-    q ∙ put-all l ((A ++ B) ++ tableBytes t) (simp length-append (omega arith))
+    let r = put-chain l b c 0 18 (A ++ B) C p pc refl (omega arith) in
+    let q = put-chain l c d 0 22 ((A ++ B) ++ C) (tableBytes t) r pd refl (omega arith) in
+    q ∙ put-all l (((A ++ B) ++ C) ++ tableBytes t) (simp length-append (omega arith))
 
 -- state and item are the whole of a walk's bytes
 pub step-stored : (x : Item) (s : State) (l a b d : List ℕ) → length l ≡ 20

@@ -37,17 +37,17 @@ module _ (n refusal : ℕ) (bytes was : List ℕ) where
         record { number = sym o; answer = p ∙ (rw (eq-eqb (lentRefusal n (length was) refusal) 0 o)) }
 
 -- ---- reading
-module _ (f was : List ℕ) (whole : length was ≡ 402) (r : Reading) (reads : Reads f r) where
-  pub refused : (n : ℕ) → r .answer ≡ Refused n → Told 402 (refusalOf f) (answerOf f) was was n
-  refused n e = told-refused 402 (refusalOf f) (answerOf f) was whole n (got-refused f r reads n e) (got-nonzero f r reads n e)
+module _ (f was : List ℕ) (whole : length was ≡ 406) (r : Reading) (reads : Reads f r) where
+  pub refused : (n : ℕ) → r .answer ≡ Refused n → Told 406 (refusalOf f) (answerOf f) was was n
+  refused n e = told-refused 406 (refusalOf f) (answerOf f) was whole n (got-refused f r reads n e) (got-nonzero f r reads n e)
 
-  pub accepted : (h : Header) → r .answer ≡ Accepted h → (left : List ℕ) → left ≡ encode headCounts (headerValues h) ++ tableBytes (r .table) → Told 402 (refusalOf f) (answerOf f) was left 0
+  pub accepted : (h : Header) → r .answer ≡ Accepted h → (left : List ℕ) → left ≡ encode headCounts (headerValues h) ++ tableBytes (r .table) → Told 406 (refusalOf f) (answerOf f) was left 0
   unfolding answerOf
   accepted h e left p =
       let z = got-number f r reads h e in
       let v : headerValues h ≡ fieldsOf f = ap headerValues (got-header f r reads h e) ∙ header-values f (acceptable f z) in
       let w = ap₂ (λ vs ts. encode headCounts vs ++ tableBytes ts) v (got-table f r reads h e) in
-      told-given 402 (refusalOf f) (answerOf f) was whole 0 (sym z) refl left (p ∙ w)
+      told-given 406 (refusalOf f) (answerOf f) was whole 0 (sym z) refl left (p ∙ w)
 
 -- ---- the walk's state
 pub lock-wide : (w : List ℕ) → 1 < getD w 9 0 → 12 ≡ stateRefusalOf w

@@ -41,9 +41,16 @@ secondCounts = 2 ∷ 2 ∷ 1 ∷ 1 ∷ 3 ∷ []
 abbrev pub secondValues : Header → List ℕ
 secondValues h = h .mnsc ∷ h .rfu ∷ h .rfa ∷ sortOf (h .timestamp) ∷ timeBy (h .timestamp) ∷ []
 
+-- the main-stream sum as sent and as worked out
+abbrev pub thirdCounts : List ℕ
+thirdCounts = 2 ∷ 2 ∷ []
+
+abbrev pub thirdValues : Header → List ℕ
+thirdValues h = h .sent ∷ h .worked ∷ []
+
 -- the header's values
 abbrev pub headCounts : List ℕ
-headCounts = firstCounts ++ secondCounts
+headCounts = firstCounts ++ secondCounts ++ thirdCounts
 
 -- SCID, SAD, TPL, STL
 abbrev pub streamCounts : List ℕ
@@ -55,7 +62,7 @@ streamBytes s = encode streamCounts (streamValues s)
 unfoldable pub tableBytes : List Stream → List ℕ
 tableBytes ss = bytesOfEach streamBytes ss
 
--- the answer bytes: the header's values in 18, then 64 entries of 6
+-- the answer bytes: the header's values in 22, then 64 entries of 6
 unfoldable pub answerOf : List ℕ → List ℕ
 answerOf f = encode headCounts (fieldsOf f) ++ tableBytes (tableBy (streamsOf f))
 

@@ -7,7 +7,7 @@ ghost use Rattle.octets.specs.Stores.{put};
 ghost use Rattle.frame.specs.Rules.{refusalOf, streamRefusalOf, ficPart, streamPart};
 ghost use Rattle.frame.specs.Answers.{digit, sortOf, headerValues, timeBy};
 ghost use Rattle.walk.specs.ItemValues.{kindOf, placeOf, lostOf};
-ghost use Rattle.controller.specs.Boundary.{encode, headCounts, firstCounts, firstValues, secondCounts, secondValues, streamBytes, tableBytes, answerOf, partBytes, marksCounts, marksValues, stepBytes, stateIn, walkOf, stateRefusalOf, Told};
+ghost use Rattle.controller.specs.Boundary.{encode, headCounts, firstCounts, firstValues, secondCounts, secondValues, thirdCounts, thirdValues, streamBytes, tableBytes, answerOf, partBytes, marksCounts, marksValues, stepBytes, stateIn, walkOf, stateRefusalOf, Told};
 use frame::Answer;
 use frame::Header;
 use frame::Span;
@@ -58,21 +58,21 @@ fn put_stream(out: &mut [u8], at: usize, s: Stream)
     out[at + 5] = (stl % 256) as u8;
 }
 
-// All 64 entries, from byte 18 on.
+// All 64 entries, from byte 22 on.
 fn put_table(out: &mut [u8], table: [Stream; 64])
-    requires { ⌜ length (now out) ≡ 402 ⌝ }
-    ensures { λ _. ⌜ (now (out .exit) ≡ put (now (out .entry)) 18 (tableBytes table)) × (length table ≡ 64) ⌝ }
+    requires { ⌜ length (now out) ≡ 406 ⌝ }
+    ensures { λ _. ⌜ (now (out .exit) ≡ put (now (out .entry)) 22 (tableBytes table)) × (length table ≡ 64) ⌝ }
 {
     let mut i: usize = 0;
     while i < 64 {
-        put_stream(out, 18 + 6 * i, table[i]);
+        put_stream(out, 22 + 6 * i, table[i]);
         i += 1;
     }
 }
 
 // Level to FL, nine bytes from 0 on.
 fn put_first(out: &mut [u8], h: Header)
-    requires { ⌜ length (now out) ≡ 402 ⌝ }
+    requires { ⌜ length (now out) ≡ 406 ⌝ }
     ensures { λ _. ⌜ now (out .exit) ≡ put (now (out .entry)) 0 (encode firstCounts (firstValues h)) ⌝ }
 {
     let fsync1 = bit(h.fsync1);
@@ -91,7 +91,7 @@ fn put_first(out: &mut [u8], h: Header)
 
 // MNSC to the timestamp, nine bytes from 9 on.
 fn put_second(out: &mut [u8], h: Header)
-    requires { ⌜ length (now out) ≡ 402 ⌝ }
+    requires { ⌜ length (now out) ≡ 406 ⌝ }
     ensures { λ _. ⌜ now (out .exit) ≡ put (now (out .entry)) 9 (encode secondCounts (secondValues h)) ⌝ }
 {
     let mnsc = h.mnsc;
@@ -110,21 +110,35 @@ fn put_second(out: &mut [u8], h: Header)
     out[17] = (time % 256) as u8;
 }
 
+// Both main-stream sums, four bytes from 18 on.
+fn put_third(out: &mut [u8], h: Header)
+    requires { ⌜ length (now out) ≡ 406 ⌝ }
+    ensures { λ _. ⌜ now (out .exit) ≡ put (now (out .entry)) 18 (encode thirdCounts (thirdValues h)) ⌝ }
+{
+    let sent = h.sent;
+    let worked = h.worked;
+    out[18] = (sent / 256 % 256) as u8;
+    out[19] = (sent % 256) as u8;
+    out[20] = (worked / 256 % 256) as u8;
+    out[21] = (worked % 256) as u8;
+}
+
 fn put_answer(out: &mut [u8], h: Header, table: [Stream; 64])
-    requires { ⌜ length (now out) ≡ 402 ⌝ }
+    requires { ⌜ length (now out) ≡ 406 ⌝ }
     ensures { λ _. ⌜ now (out .exit) ≡ encode headCounts (headerValues h) ++ tableBytes table ⌝ }
 {
     put_first(out, h);
     put_second(out, h);
+    put_third(out, h);
     put_table(out, table);
 }
 
 // The refusal number, 0 for accepted; then the answer bytes hold the header and the table. Refused, not one is written.
 #[no_mangle]
 pub extern "C" fn spindlewren_read(frame: &[u8], answer: &mut [u8]) -> u8
-    ensures { λ r. ⌜ Told 402 (refusalOf (now (frame .entry))) (answerOf (now (frame .entry))) (now (answer .entry)) (now (answer .exit)) r ⌝ }
+    ensures { λ r. ⌜ Told 406 (refusalOf (now (frame .entry))) (answerOf (now (frame .entry))) (now (answer .entry)) (now (answer .exit)) r ⌝ }
 {
-    if answer.len() != 402 {
+    if answer.len() != 406 {
         return 1;
     }
     let reading = reading::read(frame);

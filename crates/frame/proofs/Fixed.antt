@@ -1,7 +1,7 @@
 -- The number and values of an answer fix it, so that two readings of the same bytes are equal.
 -- Assumes nothing.
 use mathlib.Core.Bool.{Bool, true, false}
-use mathlib.Core.List.{List}
+use mathlib.Core.List.{List, [], _∷_}
 use mathlib.Core.Path.{_≡_, refl, sym, ap, _∙_}
 use Prim.Native.Nat.{ℕ}
 use native.Mathlib.Omega.{arith}
@@ -10,7 +10,9 @@ use Rattle.frame.specs.declared.Answer.the-variants.{Accepted, Refused}
 use Rattle.frame.specs.declared.Header.{Header}
 use Rattle.frame.specs.declared.Reading.{Reading}
 use Rattle.frame.proofs.Timestamps.{timestamp-fixed}
-use Rattle.frame.specs.Answers.{digit, headerValues, numberOf, valuesOf, Reads}
+use Rattle.frame.specs.Answers.{digit, headerValues, numberOf, valuesOf, returnedOf, sumsOf, returningOf, fieldsOf, Reads}
+use Rattle.frame.specs.Frame.{mainOf, mainSumOf}
+use Rattle.sum.specs.Sum.{sumOf}
 
 digit-fixed : (a b : Bool) → digit a ≡ digit b → a ≡ b
 digit-fixed true true e = refl
@@ -32,6 +34,8 @@ header-fixed h k e =
     let rfu : h .rfu ≡ k .rfu = cc in
     let rfa : h .rfa ≡ k .rfa = cc in
     let timestamp = timestamp-fixed (h .timestamp) (k .timestamp) (cc) in
+    let sent : h .sent ≡ k .sent = cc in
+    let worked : h .worked ≡ k .worked = cc in
     λ i.
     record {
       level = level i;
@@ -46,6 +50,8 @@ header-fixed h k e =
       rfu = rfu i;
       rfa = rfa i;
       timestamp = timestamp i;
+      sent = sent i;
+      worked = worked i;
     }
 
 pub answer-fixed : (a b : Answer) → numberOf a ≡ numberOf b → valuesOf a ≡ valuesOf b → a ≡ b
@@ -59,3 +65,9 @@ reading-fixed f r q a b =
     let answer = answer-fixed (r .answer) (q .answer) (a .number ∙ sym (b .number)) (a .values ∙ sym (b .values)) in
     let table = a .table ∙ sym (b .table) in
     λ i. record { answer = answer i; table = table i }
+
+-- the values of an accepted frame's answer, taken apart: the fields that return, and the two sums
+pub apart : (f : List ℕ) (a : Answer) → valuesOf a ≡ fieldsOf f → (returnedOf a ≡ returningOf f) × (sumsOf a ≡ mainSumOf f ∷ sumOf (mainOf f) ∷ [])
+unfolding fieldsOf returningOf
+apart f (Accepted h) e = (cc, cc)
+apart f (Refused n) e = let z : _≡_ {A = ℕ} 0 1 = cc in absurd (omega arith)

@@ -7,6 +7,7 @@ use lib.Dec.{eqb, ltb}
 use lib.ListN.{length, replicate}
 use denote.Ref.{RefT, now}
 pub use Rattle.sum.specs.Sum.{digit}
+use Rattle.sum.specs.Sum.{sumOf}
 use Rattle.frame.specs.declared.Answer.{Answer}
 use Rattle.frame.specs.declared.Answer.the-variants.{Accepted, Refused}
 use Rattle.frame.specs.declared.Header.{Header}
@@ -16,7 +17,7 @@ use Rattle.frame.specs.declared.Stream.{Stream}
 use Rattle.frame.specs.declared.Timestamp.{Timestamp}
 use Rattle.frame.specs.declared.Timestamp.the-variants.{Absent, Time, Reserved}
 use Rattle.octets.specs.Choice.{pick, placeIn}
-use Rattle.frame.specs.Frame.{fsyncs, fsyncOf, fctOf, ficfOf, nstOf, fpOf, midOf, flOf, streamsOf, cut, mnscOf, rfuOf, rfaOf, timeOf, levelOf}
+use Rattle.frame.specs.Frame.{fsyncs, fsyncOf, fctOf, ficfOf, nstOf, fpOf, midOf, flOf, streamsOf, cut, mnscOf, mainOf, mainSumOf, rfuOf, rfaOf, timeOf, levelOf}
 use Rattle.frame.specs.Rules.{refusalOf}
 
 -- annex C.2: a timestamp's sort, 0 where none is given, 1 for a time and 2 for a reserved number, and its number, FFFFFF where none is given
@@ -41,9 +42,17 @@ timestampBy sort n = pick (eqb sort 0) Absent (pick (eqb sort 1) (Time n) (Reser
 unfoldable pub timestampFor : ℕ → Timestamp
 timestampFor n = pick (eqb n 0xFFFFFF) Absent (pick (ltb 0xF9FFFF n) (Reserved n) (Time n))
 
-abbrev pub headerValues : Header → List ℕ
-headerValues h =
+-- the values of the fields that return: those that writing takes and reading gives back
+abbrev pub returningValues : Header → List ℕ
+returningValues h =
     h .level ∷ digit (h .fsync1) ∷ h .fct ∷ digit (h .ficf) ∷ h .nst ∷ h .fp ∷ h .mid ∷ h .fl ∷ h .mnsc ∷ h .rfu ∷ h .rfa ∷ timestampValues (h .timestamp)
+
+-- the main-stream sum as sent and as worked out
+abbrev pub sumValues : Header → List ℕ
+sumValues h = h .sent ∷ h .worked ∷ []
+
+abbrev pub headerValues : Header → List ℕ
+headerValues h = returningValues h ++ sumValues h
 
 -- an answer's number, 0 for accepted, and its values, none for refused
 abbrev pub numberOf : Answer → ℕ
@@ -54,10 +63,22 @@ abbrev pub valuesOf : Answer → List ℕ
 valuesOf (Accepted h) = headerValues h
 valuesOf (Refused n) = []
 
+-- of its values, the fields that return, and the two sums
+abbrev pub returnedOf : Answer → List ℕ
+returnedOf (Accepted h) = returningValues h
+returnedOf (Refused n) = []
+
+abbrev pub sumsOf : Answer → List ℕ
+sumsOf (Accepted h) = sumValues h
+sumsOf (Refused n) = []
+
 -- ---- what a frame's answer is to be
-unfoldable pub fieldsOf : List ℕ → List ℕ
-fieldsOf f =
+unfoldable pub returningOf : List ℕ → List ℕ
+returningOf f =
     levelOf f ∷ placeIn fsyncs (fsyncOf f) ∷ fctOf f ∷ ficfOf f ∷ nstOf f ∷ fpOf f ∷ midOf f ∷ flOf f ∷ mnscOf f ∷ rfuOf f ∷ rfaOf f ∷ timestampValues (timestampFor (timeOf f))
+
+unfoldable pub fieldsOf : List ℕ → List ℕ
+fieldsOf f = returningOf f ++ (mainSumOf f ∷ sumOf (mainOf f) ∷ [])
 
 -- the header of a frame, as a value
 unfoldable pub headerFor : List ℕ → Header
@@ -75,6 +96,8 @@ headerFor f =
       rfu = rfuOf f;
       rfa = rfaOf f;
       timestamp = timestampFor (timeOf f);
+      sent = mainSumOf f;
+      worked = sumOf (mainOf f);
     }
 
 abbrev pub noStream : Stream

@@ -29,7 +29,7 @@ ficlIn x = ficlBy (digit (x .ficf)) (x .mid)
 unfoldable pub flIn : Fields → ℕ
 flIn x = flBy (x .count) (ficlIn x) (stlTotal (entriesOf x))
 
--- the fields as the paper's values, in the order of reading's
+-- the fields as the paper's values, in the order of those that reading gives back
 unfoldable pub valuesIn : Fields → List ℕ
 valuesIn x =
     x .level ∷ digit (x .fsync1) ∷ x .fct ∷ digit (x .ficf) ∷ x .count ∷ x .fp ∷ x .mid ∷ flIn x ∷ x .mnsc ∷ x .rfu ∷ x .rfa ∷ timestampValues (x .timestamp)

@@ -45,7 +45,8 @@ pub enum Timestamp {
     Reserved(u32),
 }
 
-// The fields of an accepted frame. The sync word is FSYNC1 where fsync1 is set, else FSYNC0. The level is the one handed on.
+// The fields of an accepted frame. The sync word is FSYNC1 where fsync1 is set, else FSYNC0. The level is the one handed on;
+// sent and worked are the main-stream sum as sent and as worked out.
 pub struct Header {
     pub level: u8,
     pub fsync1: bool,
@@ -59,6 +60,8 @@ pub struct Header {
     pub rfu: u16,
     pub rfa: u8,
     pub timestamp: Timestamp,
+    pub sent: u16,
+    pub worked: u16,
 }
 
 // What reading answers: the header, or the number of the refusal.

@@ -10,7 +10,7 @@ use Rattle.frame.specs.declared.Header.{Header}
 use Rattle.frame.specs.declared.Reading.{Reading}
 use Rattle.frame.specs.Frame.{streamsOf}
 use Rattle.frame.specs.Rules.{refusalOf}
-use Rattle.frame.specs.Answers.{numberOf, valuesOf, headerValues, fieldsOf, tableBy, Reads, headerFor}
+use Rattle.frame.specs.Answers.{numberOf, valuesOf, headerValues, fieldsOf, returningOf, tableBy, Reads, headerFor}
 use Rattle.frame.proofs.Accepting.{acceptable}
 use Rattle.frame.proofs.Fixed.{answer-fixed}
 use Rattle.frame.proofs.Headers.{header-values}
@@ -38,7 +38,7 @@ module _ (f : List ℕ) (r : Reading) (reads : Reads f r) where
     got-refused = sym (ap numberOf e) ∙ reads .number
 
     pub got-nonzero : n ≡ 0 → ⊥
-    unfolding fieldsOf
+    unfolding fieldsOf returningOf
     got-nonzero z =
         let y = eq-eqb (refusalOf f) 0 (sym got-refused ∙ z) in
         let v : [] ≡ fieldsOf f = sym (ap valuesOf e) ∙ reads .values ∙ (rw y) in

@@ -54,8 +54,9 @@ fn header(frame: &[u8]) -> Header
     let eof = fields::eof(frame);
     let tist = fields::tist(frame);
     let timestamp = timestamp(tist.time);
+    let worked = main_sum(frame);
     Header {
-        level: handed(fields::level(sync.err), main_sum(frame), eof.sum),
+        level: handed(fields::level(sync.err), worked, eof.sum),
         fsync1: fields::fsync(sync.fsync) == 1,
         fct: fc.fct,
         ficf: fc.ficf == 1,
@@ -67,6 +68,8 @@ fn header(frame: &[u8]) -> Header
         rfu: eof.rfu,
         rfa: tist.rfa,
         timestamp,
+        sent: eof.sum,
+        worked,
     }
 }
 

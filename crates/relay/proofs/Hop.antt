@@ -17,14 +17,14 @@ use Rattle.frame.specs.declared.Span.{Span}
 use Rattle.frame.specs.declared.Stream.{Stream}
 use Rattle.frame.specs.Frame.{nstOf, midOf, flOf, ficfOf, ficlBy, ficlOf, stlTotal, flBy, streamsOf, mainSpan, mainOf}
 use Rattle.frame.specs.Rules.{_when_, first, rulesOf, refusalOf, Acceptable, mainPart}
-use Rattle.frame.specs.Answers.{digit, timestampValues, noStream, fieldsOf, tableBy, Reads, PartAt, headerFor}
+use Rattle.frame.specs.Answers.{digit, timestampValues, noStream, returningOf, tableBy, Reads, PartAt, headerFor}
 use Rattle.frame.specs.Writing.{entriesOf, flIn, valuesIn, writingRefusalOf, frameIn, writtenOf, Writes, Bytes, Clean}
 use Rattle.frame.proofs.Accepting.{acceptable, nothing}
 use Rattle.frame.proofs.Tiling.{granted-given}
 use Rattle.frame.proofs.FirstRule.{first-zero, first-found}
 use Rattle.frame.proofs.Streams.{streams-length}
 use Rattle.reading.proofs.Answered.{got-header, got-table}
-use Rattle.frame.proofs.Headers.{header-values, digit-of, ficf-lt}
+use Rattle.frame.proofs.Headers.{returning-values, digit-of, ficf-lt}
 use Rattle.trips.proofs.OneFrame.{one-frame}
 use Rattle.trips.proofs.ReadWritable.{read-unrefused}
 use Rattle.relay.specs.Relaying.{fieldsWith, fieldsFor, relayRefusalOf, Relays}
@@ -49,14 +49,14 @@ module _ (f : List ℕ) (z : refusalOf f ≡ 0) where
       ∙ ap (λ (ss : List Stream). flBy (nstOf f) (ficlOf f) (stlTotal ss)) entries-for
       ∙ sym (a .formula)
 
-  values-for : valuesIn (fieldsFor f) ≡ fieldsOf f
+  values-for : valuesIn (fieldsFor f) ≡ returningOf f
   unfolding valuesIn fieldsFor headerFor
   values-for =
       let h = headerFor f in
       ap
       (λ (n : ℕ). h .level ∷ digit (h .fsync1) ∷ h .fct ∷ digit (h .ficf) ∷ h .nst ∷ h .fp ∷ h .mid ∷ n ∷ h .mnsc ∷ h .rfu ∷ h .rfa ∷ timestampValues (h .timestamp))
       fl-for
-      ∙ header-values f a
+      ∙ returning-values f a
 
   relayed : (o : ℕ) → relayRefusalOf f o ≡ first ((1 when not (eqb o 6144)) ∷ [])
   unfolding relayRefusalOf

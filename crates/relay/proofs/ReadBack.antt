@@ -1,6 +1,6 @@
 -- What is written and not refused is read back: number, values, entries and parts, by the round trip over the definitions.
 -- Assumes nothing.
-use mathlib.Core.List.{List, []}
+use mathlib.Core.List.{List, [], _∷_}
 use mathlib.Core.Path.{_≡_, refl, sym, ap, ap₂, subst, _∙_}
 use Prim.Native.Nat.{ℕ, _+_, _*_, _<_}
 use native.Mathlib.Nat.{le-of-lt}
@@ -16,7 +16,9 @@ use Rattle.frame.specs.Frame.{nstOf, ficlOf, ficlBy, streamOf, streamsTo, stlTo
 use Rattle.frame.specs.Rules.{refusalOf, Acceptable, streamRefusalOf, granted, mainPart, ficPart, streamPart}
 use Rattle.frame.specs.Answers.{noStream, tableBy, Reads}
 use Rattle.frame.specs.Writing.{entriesOf, ficlIn, writingRefusalOf, frameIn, writtenOf, Writes}
+use Rattle.sum.specs.Sum.{sumOf}
 use Rattle.frame.proofs.Accepting.{acceptable, request-within}
+use Rattle.frame.proofs.Fixed.{apart}
 use Rattle.frame.proofs.Streams.{streams-take, streams-at}
 use Rattle.frame.proofs.Tiling.{granted-given, fic-of-main, stream-of-main}
 use Rattle.trips.proofs.Agree.{Agree, agree}
@@ -68,7 +70,7 @@ module _ (x : Fields) (m was is : List ℕ) (n : ℕ) (w : Writes x m was is n) 
   back-refused h t e =
       let z : writingRefusalOf x (length m) (length was) ≡ 0 → ⊥ = λ p. h (w .number ∙ p) in
       let y = ne-eqb (writingRefusalOf x (length m) (length was)) 0 z in
-      record { output = w .output; number = w .number; values = rw y; table = rw y e; parts = λ p. absurd (z p) }
+      record { output = w .output; number = w .number; values = rw y; sums = rw y; table = rw y e; parts = λ p. absurd (z p) }
 
   -- not refused: what stands in the output is read back
   pub back-read : n ≡ 0 → length (x .table) ≡ 64 → (r : Reading) → Reads is r → ReadsBack x m was is r
@@ -79,10 +81,12 @@ module _ (x : Fields) (m was is : List ℕ) (n : ℕ) (w : Writes x m was is n) 
       let f : is ≡ frameIn x m = w .output ∙ (rw y) in
       let t : Returned x m is = subst (Returned x m) (sym f) (written-read x m (writable x (length m) (length was) o) l) in
       let k = eq-eqb (refusalOf is) 0 (t .number) in
+      let given = apart is (r .answer) (reads .values ∙ (rw k)) in
       record {
         output = w .output;
         number = reads .number ∙ t .number ∙ sym o;
-        values = rw y (reads .values ∙ (rw k (t .values)));
+        values = rw y (given .0 ∙ t .values);
+        sums = rw y (given .1 ∙ (λ i. (sym (t .clean .sum) ∙ ap sumOf (t .main)) i ∷ sumOf (t .main i) ∷ []));
         table = rw y (reads .table ∙ (rw k (ap tableBy (t .streams))));
         parts = λ p. parts-back x m is t;
       }

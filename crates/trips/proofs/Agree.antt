@@ -6,7 +6,7 @@ use Prim.Native.Nat.{ℕ}
 use Rattle.frame.specs.declared.Fields.{Fields}
 use Rattle.octets.specs.Choice.{placeIn}
 use Rattle.frame.specs.Frame.{fsyncs, fsyncOf, fctOf, ficfOf, nstOf, fpOf, midOf, flOf, mnscOf, rfuOf, rfaOf, timeOf, levelOf}
-use Rattle.frame.specs.Answers.{digit, timestampValues, timestampFor, fieldsOf}
+use Rattle.frame.specs.Answers.{digit, timestampValues, timestampFor, returningOf}
 use Rattle.frame.specs.Writing.{flIn, valuesIn}
 
 pub record Agree (f : List ℕ) (x : Fields) : Type 0 where
@@ -23,8 +23,8 @@ pub record Agree (f : List ℕ) (x : Fields) : Type 0 where
   pub rfa : rfaOf f ≡ x .rfa
   pub timestamp : timestampValues (timestampFor (timeOf f)) ≡ timestampValues (x .timestamp)
 
-pub agree : (f : List ℕ) (x : Fields) → fieldsOf f ≡ valuesIn x → Agree f x
-unfolding fieldsOf valuesIn
+pub agree : (f : List ℕ) (x : Fields) → returningOf f ≡ valuesIn x → Agree f x
+unfolding returningOf valuesIn
 agree f x e =
     record {
       level = cc;
@@ -41,8 +41,8 @@ agree f x e =
       timestamp = cc;
     }
 
-pub agreed : (f : List ℕ) (x : Fields) → Agree f x → fieldsOf f ≡ valuesIn x
-unfolding fieldsOf valuesIn
+pub agreed : (f : List ℕ) (x : Fields) → Agree f x → returningOf f ≡ valuesIn x
+unfolding returningOf valuesIn
 agreed f x a =
     λ i.
     a .level i ∷ a .fsync i ∷ a .fct i ∷ a .ficf i ∷ a .nst i ∷ a .fp i ∷ a .mid i ∷ a .fl i ∷ a .mnsc i ∷ a .rfu i ∷ a .rfa i ∷ a .timestamp i

@@ -1,6 +1,6 @@
 -- Entries beyond the count have no effect: the values and the entries below it fix the frame written and the refusal.
 -- Assumes nothing.
-use mathlib.Core.List.{List}
+use mathlib.Core.List.{List, [], _∷_, _++_}
 use mathlib.Core.Path.{_≡_, refl, sym, ap, _∙_}
 use Prim.Native.Nat.{ℕ}
 use native.Mathlib.Nat.{le-refl}
@@ -27,11 +27,13 @@ headed x =
       rfu = x .rfu;
       rfa = x .rfa;
       timestamp = x .timestamp;
+      sent = 0;
+      worked = 0;
     }
 
 headed-same : (x y : Fields) → valuesIn x ≡ valuesIn y → headed x ≡ headed y
 unfolding valuesIn
-headed-same x y e = let a = answer-fixed (Accepted (headed x)) (Accepted (headed y)) refl e in cc
+headed-same x y e = let a = answer-fixed (Accepted (headed x)) (Accepted (headed y)) refl (ap (λ (vs : List ℕ). vs ++ (0 ∷ 0 ∷ [])) e) in cc
 
 -- x with its table cut off at the count
 abbrev trimmed : Fields → Fields

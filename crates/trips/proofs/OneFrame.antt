@@ -10,7 +10,7 @@ use Rattle.frame.specs.declared.Fields.{Fields}
 use Rattle.octets.specs.Words.{join, wordAt}
 use Rattle.frame.specs.Frame.{statuses, statusBy, fsyncs, fsyncBy, syncWidths, errOf, fsyncOf, fcWidths, nstOf, flOf, streamsOf, eohWidths, headerBytesOf, headerSumOf, mnscOf, mainEnd, mainOf, eofWidths, tistWidths, timeOf, carriedBy}
 use Rattle.frame.specs.Rules.{refusalOf, Acceptable}
-use Rattle.frame.specs.Answers.{digit, timeBy, timestampFor, fieldsOf}
+use Rattle.frame.specs.Answers.{digit, timeBy, timestampFor, returningOf}
 use Rattle.frame.specs.Writing.{entriesOf, valuesIn, streamsBytes, headerIn, frameIn, Bytes, Clean}
 use Rattle.frame.proofs.Accepting.{acceptable}
 use Rattle.frame.proofs.Places.{status-placed, fsync-placed}
@@ -64,5 +64,5 @@ module _ (f : List ℕ) (a : Acceptable f) (b : Bytes f) (k : Clean f) (x : Fiel
       let rfu = rw (g .rfu) at (plain-fit f .1 .1 .1 .1 .0) in
       frame-laid x (mainOf f) mnsc rfu ∙ sym words ∙ sym (pieces f b a)
 
-pub one-frame : (f : List ℕ) → refusalOf f ≡ 0 → Bytes f → Clean f → (x : Fields) (m : List ℕ) → fieldsOf f ≡ valuesIn x → streamsOf f ≡ entriesOf x → mainOf f ≡ m → frameIn x m ≡ f
+pub one-frame : (f : List ℕ) → refusalOf f ≡ 0 → Bytes f → Clean f → (x : Fields) (m : List ℕ) → returningOf f ≡ valuesIn x → streamsOf f ≡ entriesOf x → mainOf f ≡ m → frameIn x m ≡ f
 one-frame f r b k x m v s e = ap (frameIn x) (sym e) ∙ same-frame f (acceptable f r) b k x (agree f x v) s

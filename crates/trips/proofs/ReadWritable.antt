@@ -15,7 +15,7 @@ use Rattle.octets.specs.Words.{Fit, wordAt}
 use Rattle.octets.specs.Choice.{placeIn}
 use Rattle.frame.specs.Frame.{statuses, errOf, nstOf, ficlBy, ficlOf, sstcWidths, streamOf, streamsTo, streamsOf, stlTotal, mainOf, mainSumOf, timeOf, levelBy, levelOf}
 use Rattle.frame.specs.Rules.{someStlAbove, refusalOf, Acceptable}
-use Rattle.frame.specs.Answers.{timestampFor, fieldsOf}
+use Rattle.frame.specs.Answers.{timestampFor, returningOf}
 use Rattle.frame.specs.Writing.{entriesOf, valuesIn, timeWider, streamValues, writingRefusalOf}
 use Rattle.frame.proofs.Accepting.{acceptable}
 use Rattle.frame.proofs.Headers.{time-of-lt}
@@ -67,5 +67,5 @@ module _ (f : List ℕ) (a : Acceptable f) (x : Fields) (g : Agree f x) (s : str
         whole = main-length f a ∙ ap₂ (λ (j k : ℕ). 4 * j + 8 * k) (ap₂ ficlBy (g .ficf) (g .mid)) (ap stlTotal s);
       }
 
-pub read-unrefused : (f : List ℕ) → refusalOf f ≡ 0 → (x : Fields) → fieldsOf f ≡ valuesIn x → streamsOf f ≡ entriesOf x → writingRefusalOf x (length (mainOf f)) 6144 ≡ 0
+pub read-unrefused : (f : List ℕ) → refusalOf f ≡ 0 → (x : Fields) → returningOf f ≡ valuesIn x → streamsOf f ≡ entriesOf x → writingRefusalOf x (length (mainOf f)) 6144 ≡ 0
 read-unrefused f r x v s = unrefused x (length (mainOf f)) (read-writable f (acceptable f r) x (agree f x v) s)

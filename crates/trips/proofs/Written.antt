@@ -14,7 +14,7 @@ use Rattle.octets.specs.Words.{Fit, wordAt}
 use Rattle.octets.specs.Choice.{placeIn}
 use Rattle.frame.specs.Frame.{statuses, statusBy, fsyncs, fsyncBy, syncWidths, errOf, fsyncOf, fcWidths, nstOf, flOf, ficlBy, streamOf, streamsTo, streamsOf, stlTotal, eohWidths, headerBytesOf, headerSumOf, mnscOf, mainStart, mainEnd, mainOf, eofWidths, mainSumOf, rfuOf, tistWidths, rfaOf, timeOf, carriedBy}
 use Rattle.frame.specs.Rules.{someStlAbove, refusalOf, Acceptable}
-use Rattle.frame.specs.Answers.{digit, noStream, timeBy, timestampValues, timestampFor, fieldsOf}
+use Rattle.frame.specs.Answers.{digit, noStream, timeBy, timestampValues, timestampFor, returningOf}
 use Rattle.frame.specs.Writing.{entriesOf, ficlIn, flIn, valuesIn, headerIn, frameIn, Clean}
 use Rattle.octets.proofs.SplitJoin.{join-lt}
 use Rattle.frame.proofs.Accepting.{accepted}
@@ -30,7 +30,7 @@ use Rattle.trips.proofs.Writable.{Writable}
 -- f, read, gives back x and m
 pub record Returned (x : Fields) (m f : List ℕ) : Type 0 where
   pub number : refusalOf f ≡ 0
-  pub values : fieldsOf f ≡ valuesIn x
+  pub values : returningOf f ≡ valuesIn x
   pub streams : streamsOf f ≡ entriesOf x
   pub main : mainOf f ≡ m
   pub clean : Clean f

@@ -176,6 +176,8 @@ fn no_header() -> Header {
         rfu: 0,
         rfa: 0,
         timestamp: Timestamp::Time(0),
+        sent: 0,
+        worked: 0,
     }
 }
 

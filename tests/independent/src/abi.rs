@@ -4,7 +4,7 @@ use crate::frame::{Reading, Stream, Table, Timestamp};
 use crate::walk::{Item, State};
 use crate::writing::Fields;
 
-pub const ANSWER: usize = 402;
+pub const ANSWER: usize = 406;
 pub const PART: usize = 4;
 pub const WALK: usize = 20;
 pub const FIELDS: usize = 401;
@@ -146,6 +146,7 @@ pub fn answer_bytes(reading: &Reading) -> Vec<u8> {
     let (sort, number) = timestamp(header.timestamp);
     bytes.extend([header.rfa, sort]);
     bytes.extend(&number.to_be_bytes()[1..]);
+    put(&mut bytes, &[header.sent, header.worked]);
     put_table(&mut bytes, &reading.table);
     bytes
 }
@@ -168,9 +169,16 @@ pub fn fields_bytes(fields: &Fields) -> Vec<u8> {
     bytes
 }
 
-/// The fields that an answer gives: all but FL, and the timestamp's number in four bytes.
+/// The fields that an answer gives and writing takes: all but FL and the two sums, and the timestamp's number in four bytes.
 pub fn fields_of_answer(answer: &[u8]) -> Vec<u8> {
-    [&answer[..7], &answer[9..15], &[0], &answer[15..]].concat()
+    [
+        &answer[..7],
+        &answer[9..15],
+        &[0],
+        &answer[15..18],
+        &answer[22..],
+    ]
+    .concat()
 }
 
 /// Place and length of a part.

@@ -58,6 +58,9 @@ pub struct Header {
     pub rfu: u16,
     pub rfa: u8,
     pub timestamp: Timestamp,
+    /// The main-stream sum as sent, and as worked out.
+    pub sent: u16,
+    pub worked: u16,
 }
 
 #[derive(Clone, Copy, Debug, Default, PartialEq, Eq)]
@@ -162,6 +165,8 @@ fn header(frame: &[u8]) -> Header {
         rfu: two(frame, end + 2),
         rfa: frame[end + 4],
         timestamp: Timestamp::of(time),
+        sent: two(frame, end),
+        worked: sum(&frame[main_start(frame)..end]),
     }
 }
 

@@ -14,14 +14,14 @@ use Rattle.controller.proofs.put_table.Statement.{statement}
 use Rattle.controller.proofs.put_table.Tie as tie
 
 abbrev Inv-loop : tie.InvT-loop
-Inv-loop out₀ table i₀ out i = (i ≤ 64) × (length out ≡ length out₀) × (out ≡ put out₀ 18 (tableBytes (take i table)))
+Inv-loop out₀ table i₀ out i = (i ≤ 64) × (length out ≡ length out₀) × (out ≡ put out₀ 22 (tableBytes (take i table)))
 
 abbrev μ-loop : tie.MeasureT-loop
 μ-loop out₀ table i₀ out i = 64 - i
 
 loop-holds : tie.Need-loop-holds Inv-loop μ-loop
 unfolding tableBytes
-loop-holds c = (search needs, refl, put-none (c .before .args .out .now) 18 (search needs))
+loop-holds c = (search needs, refl, put-none (c .before .args .out .now) 22 (search needs))
 
 loop-again : tie.Need-loop-again Inv-loop μ-loop
 loop-again c =
@@ -31,7 +31,7 @@ loop-again c =
     let t = start .args .t2 in
     let i = turn .loop .i in
     let e : length t ≡ 64 = start .good .1 .0 .1 .0 .1 in
-    let stored : c .before .before .put-stream .last .0 ≡ put l 18 (tableBytes (take (i + 1) t)) =
+    let stored : c .before .before .put-stream .last .0 ≡ put l 22 (tableBytes (take (i + 1) t)) =
     c .before .before .put-stream .ensures ∙ rw (turn .loop .inv .2) (table-more l t i (search needs) e (omega arith)) in
     (search needs, search needs, stored)
 
@@ -41,7 +41,7 @@ returns c =
     let t = start .args .t2 in
     let e : length t ≡ 64 = start .good .1 .0 .1 .0 .1 in (
       c .before .loop .inv .2
-          ∙ ap (λ (r : List Stream). put (start .args .out .now) 18 (tableBytes r)) (take-all (c .before .loop .i) t (omega arith)),
+          ∙ ap (λ (r : List Stream). put (start .args .out .now) 22 (tableBytes r)) (take-all (c .before .loop .i) t (omega arith)),
       e,
     )
 

@@ -4,7 +4,7 @@ use Rattle.controller.proofs.spindlewren_read.Statement.{statement}
 use Rattle.controller.proofs.spindlewren_read.Tie as tie
 
 returns : tie.Need-returns
-returns c = wrong-length 402 _ _ _ (c .if1 .taken)
+returns c = wrong-length 406 _ _ _ (c .if1 .taken)
 
 returns-2 : tie.Need-returns-2
 returns-2 c =
