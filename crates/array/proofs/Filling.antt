@@ -36,6 +36,12 @@ list-same f g (suc n) h = ap₂ (λ (xs : List _) (x : _). xs ++ (x ∷ [])) (li
 pub list-all : {A : Type 0} (d : A) (xs : List A) (n : ℕ) → length xs ≡ n → list (λ k. getD xs k d) n ≡ xs
 list-all d xs n e = ap (list (λ k. getD xs k d)) (sym e) ∙ sym (list-eq (λ k. getD xs k d) d xs (λ k l. refl))
 
+-- within a list what stands for the places beyond it does not count
+pub getD-any : {A : Type 0} (xs : List A) (n : ℕ) (d e : A) → n < length xs → getD xs n d ≡ getD xs n e
+getD-any [] n d e h = absurd (omega arith)
+getD-any (x ∷ xs) zero d e h = refl
+getD-any (x ∷ xs) (suc n) d e h = getD-any xs n d e (le-of-suc-le-suc h)
+
 -- a run of stores into n places: the first k hold f's values
 pub record Filled {A : Type 0} (f : ℕ → A) (d : A) (n : ℕ) (xs : List A) (k : ℕ) : Type 0 where
   pub below : k ≤ n
