@@ -38,7 +38,7 @@ free-column i zero h f = absurd (let e : true ≡ false = (rw (lt-ltb (i % 8) 2 
 free-column i (suc j) h f = omega arith
 
 -- ---- a cell
-module _ (w i j : ℕ) (p : Parts) (c : CellOf w p i j) where
+module _ {w i j : ℕ} {p : Parts} (c : CellOf w p i j) where
   pub check-le : w ≤ j → i * (240 - w) + (j - w) < 24 * (240 - w)
   check-le h = let m : i * (240 - w) ≤ 23 * (240 - w) = mul-le-mul-right (240 - w) (omega arith) in omega arith
 
