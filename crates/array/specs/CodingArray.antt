@@ -39,6 +39,11 @@ pub record Parts : Type 0 where
   pub signalling : List ℕ
   pub check : List ℕ
 
+-- the parts, in the order in which they are lent
+abbrev pub lent : List ℕ → List ℕ → List ℕ → List ℕ → List ℕ → List ℕ → Parts
+lent b m s g h r =
+    record { information = b; management = m; supervision = s; synchronising = g; signalling = h; check = r }
+
 -- a cell of the first two rows of a superblock in a column 0, 30, .. has a management or a supervision byte
 abbrev pub taken : ℕ → ℕ → Bool
 taken i j = ltb (i % 8) 2 && eqb (j % 30) 0

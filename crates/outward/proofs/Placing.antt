@@ -10,12 +10,12 @@ use borrow.Author.Tests.{lt-ltb, le-ltb, eq-eqb, ne-eqb}
 use lib.Dec.{eqb}
 use lib.ListN.{length, getD}
 use Rattle.octets.specs.Choice.{pick}
-use Rattle.array.specs.CodingArray.{Wide, widthOf, carried, Parts, taken, indexAt, contents, codingRow, codingArray}
+use Rattle.array.specs.CodingArray.{Wide, widthOf, carried, Parts, lent, taken, indexAt, contents, codingRow, codingArray}
 use Rattle.array.specs.OutputArray.{outputAt, outputOf}
 use Rattle.array.specs.PartLengths.{partsRefusal, refusalBeside}
 use Rattle.array.proofs.Sizes.{six}
 use Rattle.outward.specs.OutClauses.{Free, Held, CellOf, inArray, beside, outputBy}
-use Rattle.outward.specs.WayOut.{lent, outRefusal, Sends}
+use Rattle.outward.specs.WayOut.{outRefusal, Sends}
 
 -- ---- bounds
 pub product-le : (a b m n : ℕ) → a ≤ m → b ≤ n → a * b ≤ m * n

@@ -11,11 +11,6 @@ use Rattle.array.specs.CodingArray.{widthOf, carried, Parts}
 use Rattle.array.specs.OutputArray.{outputOf}
 use Rattle.array.specs.PartLengths.{refusalBeside}
 
--- the parts, in the order in which they are lent
-abbrev pub lent : List ℕ → List ℕ → List ℕ → List ℕ → List ℕ → List ℕ → Parts
-lent b m s g h r =
-    record { information = b; management = m; supervision = s; synchronising = g; signalling = h; check = r }
-
 -- 1 for a part of the wrong length, then 23 for more information than the variant carries
 unfoldable pub outRefusal : ℕ → Parts → List ℕ → ℕ
 outRefusal w p output =

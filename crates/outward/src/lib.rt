@@ -2,10 +2,10 @@
 ghost use mathlib.Core.Path.{_≡_};
 ghost use Prim.Native.Nat.{_<_};
 ghost use lib.ListN.{length, getD};
-ghost use Rattle.array.specs.CodingArray.{taken, indexAt, contents, codingRow, codingArray};
+ghost use Rattle.array.specs.CodingArray.{lent, taken, indexAt, contents, codingRow, codingArray};
 ghost use Rattle.array.specs.OutputArray.{outputAt};
 ghost use Rattle.outward.specs.OutClauses.{Free, Held, CellOf, inArray, beside, outputBy};
-ghost use Rattle.outward.specs.WayOut.{lent, Sends};
+ghost use Rattle.outward.specs.WayOut.{Sends};
 
 // Information byte n: FF from the last one lent on.
 fn octet(information: &[u8], n: usize) -> u8
