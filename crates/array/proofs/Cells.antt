@@ -9,7 +9,7 @@ use borrow.Author.Tests.{ltb-true, ltb-false, lt-ltb, le-ltb, eqb-false, ne-eqb}
 use lib.Arith.{digits-div, digits-mod}
 use lib.Dec.{eqb, ltb, lit<, lit≤}
 use Rattle.octets.specs.Choice.{pick}
-use Rattle.array.specs.CodingArray.{Wide, superblock, upperRow, carried, widthOf, taken, indexAt, rowIn, columnIn, rowOf, columnOf}
+use Rattle.array.specs.CodingArray.{Wide, superblock, upperRow, carried, widthOf, taken, indexAt, spread, rowIn, columnIn, rowOf, columnOf}
 
 -- both variants
 pub wide : (fourteen : Bool) → Wide (widthOf fourteen)
@@ -42,13 +42,13 @@ module _ {w : ℕ} (W : Wide w) where
   superblock-pos = omega arith
 
   -- the first two rows
-  upper : (t k u : ℕ) → t ≡ k * upperRow w + u → u < upperRow w → k < 2 → Cell w t k (u + u / 29 + 1)
+  upper : (t k u : ℕ) → t ≡ k * upperRow w + u → u < upperRow w → k < 2 → Cell w t k (spread u)
   upper t k u e h l =
       let m = k * upperRow w in
       record {
         row = omega arith;
         column = omega arith;
-        free = not-both (ltb (k % 8) 2) (eqb ((u + u / 29 + 1) % 30) 0) (λ _. ne-eqb ((u + u / 29 + 1) % 30) 0 (omega arith));
+        free = not-both (ltb (k % 8) 2) (eqb (spread u % 30) 0) (λ _. ne-eqb (spread u % 30) 0 (omega arith));
         index = rw (lt-ltb k 2 l) (omega arith);
       }
 

@@ -23,27 +23,25 @@ pub record Sent (i j : ℕ) : Type 0 where
 received-sent : (p : ℕ) → received (sent p) ≡ p
 received-sent p = omega arith
 
--- superblock s, column j, row k of the superblock
-super-of : (s j k : ℕ) → j < 240 → k < 8 → (1920 * s + 8 * j + k) / 1920 ≡ s
-super-of s j k h l = omega arith
+-- superblock, column, and row of the superblock
+super-of : (i j : ℕ) → j < 240 → interleaved i j / 1920 ≡ i / 8
+super-of i j h = omega arith
 
-column-of : (s j k : ℕ) → j < 240 → k < 8 → (1920 * s + 8 * j + k) % 1920 / 8 ≡ j
-column-of s j k h l = let e : (1920 * s + 8 * j + k) % 1920 ≡ 8 * j + k = omega arith in rw e (omega arith)
+column-of : (i j : ℕ) → j < 240 → interleaved i j % 1920 / 8 ≡ j
+column-of i j h = omega arith
 
-row-of : (s j k : ℕ) → k < 8 → (1920 * s + 8 * j + k) % 8 ≡ k
-row-of s j k l = omega arith
+row-of : (i j : ℕ) → interleaved i j % 8 ≡ i % 8
+row-of i j = omega arith
 
 pub sent-at : (i j : ℕ) → i < 24 → j < 240 → Sent i j
 unfolding place rowAt columnAt
 sent-at i j h l =
-    let p = interleaved i j in
-    let e = received-sent p in
-    let k : i % 8 < 8 = mod-lt i (lit< tt) in
+    let e = received-sent (interleaved i j) in
     record {
       inside = omega arith;
       between = omega arith;
-      row = rw (e, super-of (i / 8) j (i % 8) l k, row-of (i / 8) j (i % 8) k) (div-add-mod' i 8);
-      column = rw e (column-of (i / 8) j (i % 8) l k);
+      row = rw (e, super-of i j l, row-of i j) (div-add-mod' i 8);
+      column = rw e (column-of i j l);
     }
 
 pub record Received (q : ℕ) : Type 0 where

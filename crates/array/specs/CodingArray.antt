@@ -74,12 +74,16 @@ codingArray w p = list (codingRow w p) 24
 abbrev pub at : List (List ℕ) → ℕ → ℕ → ℕ
 at c i j = getD (getD c i []) j 0
 
+-- the column of byte u of a first or second row: the columns 0, 30, .. are left out
+abbrev pub spread : ℕ → ℕ
+spread u = u + u / 29 + 1
+
 -- the row and the column of byte t of a superblock
 abbrev pub rowIn : ℕ → ℕ → ℕ
 rowIn w t = pick (ltb t (2 * upperRow w)) (t / upperRow w) ((t + 16) / w)
 
 abbrev pub columnIn : ℕ → ℕ → ℕ
-columnIn w t = pick (ltb t (2 * upperRow w)) (t % upperRow w + t % upperRow w / 29 + 1) ((t + 16) % w)
+columnIn w t = pick (ltb t (2 * upperRow w)) (spread (t % upperRow w)) ((t + 16) % w)
 
 -- the row and the column of information byte n
 unfoldable pub rowOf : ℕ → ℕ → ℕ

@@ -17,7 +17,7 @@ use Rattle.linear.proofs.Xor.{xor-assoc, xor-cross}
 use Rattle.field.specs.Field.{times, power}
 use Rattle.field.proofs.Ring.{linear-l, linear-r, at-zero, times-assoc, times-comm, times-lt, times-power, power-lt}
 use Rattle.field.proofs.Inverses.{no-zero, power-pos, powers-apart}
-use Rattle.code.specs.Code.{_⊞_, horner, valueAt, root, isClean}
+use Rattle.code.specs.Code.{_⊞_, horner, valueAt, firstRoot, root, isClean}
 use Rattle.code.proofs.CleanRows.{horner-start, lift, lift-power, clean-sum, clean-at}
 
 -- each byte is one
@@ -192,4 +192,4 @@ few (suc n) b r a (x ∷ xs) e o w s = go (eqb x 0) refl r w s (few n (omega ari
 -- a clean row with at most r bytes that are not zero is zero
 pub distance : (r : ℕ) (row : List ℕ) → length row ≤ 255 → Octets row → weight row ≤ r → isClean r row ≡ true → Zeros row
 unfolding root
-distance r row b o w e = few (length row) b r 120 row refl o w (λ i h. sym (value-sum (120 + i) row o) ∙ clean-at r row e i h)
+distance r row b o w e = few (length row) b r firstRoot row refl o w (λ i h. sym (value-sum (firstRoot + i) row o) ∙ clean-at r row e i h)

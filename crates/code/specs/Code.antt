@@ -28,8 +28,11 @@ abbrev pub valueAt : ℕ → List ℕ → ℕ
 valueAt z row = horner z 0 row
 
 -- the roots of the generator: alpha^120 to alpha^(119 + R)
+abbrev pub firstRoot : ℕ
+firstRoot = 120
+
 unfoldable pub root : ℕ → ℕ
-root i = power (120 + i)
+root i = power (firstRoot + i)
 
 -- a row is clean where its value at each of the R roots is zero
 abbrev pub isClean : ℕ → List ℕ → Bool

@@ -5,14 +5,15 @@ use mathlib.Core.Path.{_≡_, refl, sym, ap, subst, _∙_}
 use mathlib.Core.Bool.{Bool, true, false, not}
 use mathlib.Core.List.{List, [], _∷_}
 use Prim.Native.Nat.{ℕ, zero, suc, _+_, _-_, _*_, _/_, _%_, _^_, _<_}
-use native.Mathlib.Nat.{add-zero, div-add-mod', le-of-suc-le-suc, not-suc-le-zero}
+use native.Mathlib.Nat.{add-zero, div-add-mod', le-of-suc-le-suc, mod-lt, not-suc-le-zero}
 use native.Mathlib.Omega.{arith}
-use lib.Dec.{T, eqb, eqb→eq}
+use lib.Dec.{T, eqb, eqb→eq, lit<}
 use lib.ListN.{length, getD}
 use Rattle.sum.specs.Sum.{bit}
+use Rattle.field.specs.FieldClauses.{entryOf}
 use Rattle.field.specs.Field.{twice, timesTo, times, power}
 use Rattle.field.proofs.Ring.{linear-l, linear-r, at-zero, times-assoc, times-comm, times-one, times-power, power-lt}
-use Rattle.field.proofs.Powers.{both, both-left, both-right}
+use Rattle.field.proofs.Powers.{both, both-left, both-right, arePowers, powers-at}
 
 -- the inverses of 1, 2, 3, ..
 inverses : List ℕ
@@ -65,8 +66,13 @@ rounds (suc q) n =
     ∙ times-one (power (q * 255 + n)) (power-lt (q * 255 + n))
     ∙ rounds q n
 
-pub power-round : (n : ℕ) → power (n % 255) ≡ power n
+power-round : (n : ℕ) → power (n % 255) ≡ power n
 power-round n = sym (rounds (n / 255) (n % 255)) ∙ ap power (div-add-mod' n 255)
+
+-- a table of 255 powers gives every one
+pub table-at : (xs : List ℕ) → T (arePowers xs) → length xs ≡ 255 → (n : ℕ) → entryOf xs n ≡ power n
+unfolding entryOf
+table-at xs t e n = powers-at xs t (n % 255) (rw e (mod-lt n (lit< tt))) ∙ power-round n
 
 -- no power is 0: it has an inverse among the powers
 first : power 0 ≡ 1

@@ -1,6 +1,7 @@
 // The field of 256 elements of clause 8.6: bytes as polynomials modulo x^8 + x^7 + x^2 + x + 1.
 ghost use mathlib.Core.Path.{_≡_};
 ghost use Rattle.field.specs.Field.{bit, scale, twice, times, power};
+ghost use Rattle.field.specs.FieldClauses.{entryOf};
 
 // The 255 powers of alpha, each the previous times alpha: the next would be the first again.
 const POWERS: [u8; 255] = [
@@ -261,14 +262,21 @@ const POWERS: [u8; 255] = [
     195,
 ];
 
+// The table goes round.
+fn entry(table: [u8; 255], n: usize) -> u8
+    ensures { λ r. ⌜ r ≡ entryOf table n ⌝ }
+{
+    table[n % 255]
+}
+
 pub fn power(n: usize) -> u8
     ensures { λ r. ⌜ r ≡ power n ⌝ }
 {
-    POWERS[n % 255]
+    entry(POWERS, n)
 }
 
 // a times alpha.
-pub fn twice(a: u8) -> u8
+fn twice(a: u8) -> u8
     ensures { λ r. ⌜ r ≡ twice a ⌝ }
 {
     if a < 128 { a << 1 } else { (a << 1) ^ 0x87 }
