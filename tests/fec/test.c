@@ -1,14 +1,11 @@
 /* Check bytes and clean rows against libfec: symbols of 8 bits, polynomial 187 hex, first root 120, step 1, 5 or 14 roots, pad 15. */
 #include <fec.h>
-#include <stddef.h>
-#include <stdint.h>
 #include <stdio.h>
 #include <string.h>
 
-uint8_t spindlewren_check_bytes(const uint8_t *information, size_t information_len, uint8_t *check, size_t check_len);
-uint8_t spindlewren_test_row(const uint8_t *row, size_t row_len, size_t check, uint8_t *clean, size_t clean_len);
+#include "spindlewren_lines.h"
 
-enum { ROW = 240, ROWS = 20000 };
+enum { ROW = SPINDLEWREN_ROW, ROWS = 20000 };
 
 static uint64_t state = 1;
 
