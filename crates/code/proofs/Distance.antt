@@ -2,23 +2,22 @@
 -- So a clean row with any 1 to r bytes changed is not clean, and the check bytes are the only ones.
 -- Assumes nothing.
 use mathlib.Core.Path.{_≡_, refl, sym, ap, ap₂, _∙_}
-use mathlib.Core.Bool.{Bool, true, false, _&&_}
-use mathlib.Core.List.{List, [], _∷_, _++_}
-use mathlib.Core.Logic.{⊎-elim}
+use mathlib.Core.Bool.{Bool, true, false}
+use mathlib.Core.List.{List, [], _∷_}
 use Prim.Native.Nat.{ℕ, zero, suc, _+_, _*_, _^_, _<_, _≤_}
-use native.Mathlib.Nat.{eq-or-lt-of-le, le-of-suc-le-suc, suc-mul, add-zero}
+use native.Mathlib.Nat.{le-of-suc-le-suc, suc-mul, add-zero}
 use native.Mathlib.Omega.{arith}
-use borrow.Author.Tests.{eqb-true, eqb-false, eq-eqb}
-use lib.Bits.{bitXor, xor-self, xor-zero-r, xor-zero-l, xor-comm, xor-lt}
+use borrow.Author.Tests.{eqb-true, eq-eqb}
+use lib.Bits.{bitXor, xor-self, xor-zero-r, xor-zero-l, xor-lt}
 use lib.Dec.{eqb}
-use lib.ListN.{length, getD, set, length-append}
+use lib.ListN.{length}
 use Rattle.octets.specs.Choice.{pick}
 use Rattle.linear.proofs.Xor.{xor-assoc, xor-cross}
 use Rattle.field.specs.Field.{times, power}
 use Rattle.field.proofs.Ring.{linear-l, linear-r, at-zero, times-assoc, times-comm, times-lt, times-power, power-lt}
 use Rattle.field.proofs.Inverses.{no-zero, power-pos, powers-apart}
-use Rattle.code.specs.Code.{_⊞_, horner, valueAt, firstRoot, root, isClean}
-use Rattle.code.proofs.CleanRows.{horner-start, lift, lift-power, clean-sum, clean-at}
+use Rattle.code.specs.Code.{horner, valueAt, firstRoot, root, isClean}
+use Rattle.code.proofs.CleanRows.{horner-start, lift-power, clean-at}
 
 -- each byte is one
 abbrev pub Octets : List ℕ → Type 0

@@ -1,14 +1,12 @@
 -- Clause 8.6 of ETS 300 799: the Reed-Solomon code with R check bytes, RS(235, 240) and RS(226, 240). A row is a polynomial over the field, its
 -- first byte the coefficient of the highest power.
 -- Assumes nothing.
-use mathlib.Core.Bool.{Bool, true, false, _&&_}
+use mathlib.Core.Bool.{Bool, true, _&&_}
 use mathlib.Core.List.{List, [], _∷_, _++_, map}
-use mathlib.Core.Path.{_≡_}
 use Prim.Native.Nat.{ℕ, zero, suc, _+_}
 use lib.Bits.{bitXor}
 use lib.Dec.{eqb}
-use lib.ListN.{length, getD, drop, replicate}
-use Rattle.octets.specs.Choice.{pick}
+use lib.ListN.{getD, drop, replicate}
 use Rattle.field.specs.Field.{times, power}
 
 infixl 40 _⊞_

@@ -1,18 +1,18 @@
 -- The answers to C.
 -- Assumes nothing.
 use mathlib.Core.Path.{_≡_, refl, sym, ap, _∙_}
-use mathlib.Core.Bool.{Bool, true, false}
+use mathlib.Core.Bool.{Bool}
 use mathlib.Core.List.{List, [], _∷_}
 use Prim.Native.Nat.{ℕ}
 use native.Mathlib.Omega.{arith}
-use borrow.Author.Tests.{eq-eqb, ne-eqb}
+use borrow.Author.Tests.{ne-eqb}
 use lib.Dec.{eqb}
 use lib.ListN.{length, set}
 use Rattle.array.specs.CodingArray.{Parts}
 use Rattle.homeward.specs.WayBack.{Returns}
 use Rattle.line.specs.NetworkOut.{SendsFrame}
 use Rattle.code.specs.Code.{isClean}
-use Rattle.code.specs.CodeAnswers.{rowRefusal, Tests}
+use Rattle.code.specs.CodeAnswers.{Tests}
 use Rattle.code.specs.declared.TestedRow.{TestedRow}
 use Rattle.lines.specs.LinesBoundary.{digit, variantRefusal, LineOut, LineBack, RowTold}
 

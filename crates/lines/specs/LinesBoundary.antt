@@ -1,6 +1,5 @@
 -- The leased lines on byte slices, for C. The variant is its number of information bytes, 5592 or 5376; another is refused with 12, before any length.
 -- Assumes nothing.
-use mathlib.Core.Bool.{Bool}
 use mathlib.Core.List.{List, [], _∷_}
 use mathlib.Core.Path.{_≡_}
 use Prim.Native.Nat.{ℕ}

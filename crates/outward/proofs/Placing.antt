@@ -12,7 +12,7 @@ use lib.ListN.{length, getD}
 use Rattle.octets.specs.Choice.{pick}
 use Rattle.array.specs.CodingArray.{Wide, widthOf, carried, Parts, lent, taken, indexAt, contents, codingRow, codingArray}
 use Rattle.array.specs.OutputArray.{outputAt, outputOf}
-use Rattle.array.specs.PartLengths.{partsRefusal, refusalBeside}
+use Rattle.array.specs.PartLengths.{refusalBeside}
 use Rattle.array.proofs.Sizes.{six}
 use Rattle.outward.specs.OutClauses.{Free, Held, CellOf, inArray, beside, outputBy}
 use Rattle.outward.specs.WayOut.{outRefusal, Sends}

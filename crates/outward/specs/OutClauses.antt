@@ -3,7 +3,7 @@
 use mathlib.Core.Bool.{false}
 use mathlib.Core.List.{List, []}
 use mathlib.Core.Path.{_≡_}
-use Prim.Native.Nat.{ℕ, _-_, _*_, _<_, _≤_}
+use Prim.Native.Nat.{ℕ, _-_, _*_, _<_}
 use lib.ListN.{length}
 use Rattle.array.specs.Listed.{list}
 use Rattle.array.specs.CodingArray.{Wide, Parts, taken}

@@ -1,7 +1,7 @@
 -- `homeward::put_check` meets its contract.
 -- Assumes nothing.
 use mathlib.Core.Path.{refl, ap, _∙_}
-use Prim.Native.Nat.{_+_, _-_, _*_, _/_, _%_, _<_}
+use Prim.Native.Nat.{_+_, _-_, _/_, _%_, _<_}
 use native.Mathlib.Nat.{mod-lt}
 use native.Mathlib.Omega.{arith}
 use borrow.Author.Needs.{needs}

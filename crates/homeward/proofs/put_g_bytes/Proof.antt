@@ -1,7 +1,7 @@
 -- `homeward::put_g_bytes` meets its contract.
 -- Assumes nothing.
 use mathlib.Core.Path.{refl, ap, _∙_}
-use Prim.Native.Nat.{_+_, _-_, _*_, _/_, _%_}
+use Prim.Native.Nat.{_+_, _-_, _*_}
 use borrow.Author.Needs.{needs}
 use lib.ListN.{length, getD}
 use Rattle.array.specs.Listed.{list}
