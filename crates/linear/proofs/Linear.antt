@@ -61,7 +61,7 @@ module _ {f g : ℕ → ℕ} (p : Linear bitXor f) (q : Linear bitXor g) where
   one-digit n (suc zero) h e = rw one-mul e
   one-digit n (suc (suc d)) h e = absurd (omega arith)
 
-  agree-below : (n : ℕ) → ((k : ℕ) → k < n → f (2 ^ k) ≡ g (2 ^ k)) → (x : ℕ) → x < 2 ^ n → f x ≡ g x
+  pub agree-below : (n : ℕ) → ((k : ℕ) → k < n → f (2 ^ k) ≡ g (2 ^ k)) → (x : ℕ) → x < 2 ^ n → f x ≡ g x
   agree-below zero h x l = rw (lt-one l) at-zero
   agree-below (suc n) h x l =
       let top = x / 2 ^ n * 2 ^ n in

@@ -6,7 +6,11 @@ pub mod abi;
 pub mod check;
 pub mod frame;
 pub mod generate;
+pub mod line;
+#[cfg(feature = "proved")]
+pub mod line_abi;
 pub mod listing;
+pub mod reed_solomon;
 pub mod relay;
 pub mod sum;
 pub mod walk;

@@ -1,0 +1,5 @@
+pub mod Filling
+pub mod Cells
+pub mod Sending
+pub mod Sizes
+pub mod ThereAndBack

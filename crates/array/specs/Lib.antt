@@ -1,0 +1,4 @@
+pub mod Listed
+pub mod CodingArray
+pub mod OutputArray
+pub mod PartLengths

@@ -1,0 +1,4 @@
+pub mod CleanRows
+pub mod CodeTurns
+pub mod Distance
+pub mod Changed

@@ -1,0 +1,4 @@
+pub mod Powers
+pub mod Ring
+pub mod FieldTurns
+pub mod Inverses

@@ -1,0 +1,14 @@
+-- `outward::taken` meets its contract.
+-- Assumes nothing.
+use borrow.Author.Tests.{lt-ltb, le-ltb}
+use Rattle.outward.proofs.taken.Statement.{statement}
+use Rattle.outward.proofs.taken.Tie as tie
+
+returns : tie.Need-returns
+returns c = simp (lt-ltb _ _ (c .if1 .taken))
+
+returns-2 : tie.Need-returns-2
+returns-2 c = simp (le-ltb _ _ (c .if1 .left))
+
+pub taken-spec : {M : Type 1} → statement M
+taken-spec = tie.close (tie.spec returns returns-2)

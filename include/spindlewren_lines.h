@@ -1,0 +1,57 @@
+/* Spindlewren: network frames over leased G.704 lines, and the check bytes of their rows. */
+#ifndef SPINDLEWREN_LINES_H
+#define SPINDLEWREN_LINES_H
+
+#include <stddef.h>
+#include <stdint.h>
+
+#ifdef __cplusplus
+extern "C" {
+#endif
+
+/* The variants, by their information bytes, and the bytes of the parts. */
+enum {
+    SPINDLEWREN_5592 = 5592,
+    SPINDLEWREN_5376 = 5376,
+    SPINDLEWREN_OUTPUT = 6144,
+    SPINDLEWREN_MANAGEMENT = 24,    /* by superblock, then block */
+    SPINDLEWREN_SUPERVISION = 24,   /* likewise */
+    SPINDLEWREN_SYNCHRONISING = 192,
+    SPINDLEWREN_SIGNALLING = 192,
+    SPINDLEWREN_CHECK_5592 = 120,   /* 24 rows of 5 */
+    SPINDLEWREN_CHECK_5376 = 336,   /* 24 rows of 14 */
+    SPINDLEWREN_ROW = 240
+};
+
+/* Each returns 0, or a refusal's number, and then nothing is written: 12 for another variant, 1 for a part of another length,
+   2 to 10 as spindlewren_read for a frame, 23 for a frame with more bytes than the variant carries. */
+
+/* The output array of a network frame and the parts beside it. */
+uint8_t spindlewren_line_out(const uint8_t *frame, size_t frame_len, size_t variant,
+                             const uint8_t *management, size_t management_len,
+                             const uint8_t *supervision, size_t supervision_len,
+                             const uint8_t *synchronising, size_t synchronising_len,
+                             const uint8_t *signalling, size_t signalling_len,
+                             const uint8_t *check, size_t check_len,
+                             uint8_t *output, size_t output_len);
+
+/* The parts of an output array; information has as many bytes as the variant's number says, fill included. No byte is judged. */
+uint8_t spindlewren_line_back(const uint8_t *output, size_t output_len, size_t variant,
+                              uint8_t *information, size_t information_len,
+                              uint8_t *management, size_t management_len,
+                              uint8_t *supervision, size_t supervision_len,
+                              uint8_t *synchronising, size_t synchronising_len,
+                              uint8_t *signalling, size_t signalling_len,
+                              uint8_t *check, size_t check_len);
+
+/* The 5 check bytes of 235 information bytes, or the 14 of 226. */
+uint8_t spindlewren_check_bytes(const uint8_t *information, size_t information_len, uint8_t *check, size_t check_len);
+
+/* Whether a row of 240 bytes, the last 5 or 14 of them check bytes, is clean: 1 or 0 in the one byte lent. */
+uint8_t spindlewren_test_row(const uint8_t *row, size_t row_len, size_t check, uint8_t *clean, size_t clean_len);
+
+#ifdef __cplusplus
+}
+#endif
+
+#endif

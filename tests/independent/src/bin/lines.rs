@@ -1,0 +1,213 @@
+//! Compares the proved leased lines and check bytes with the independent implementation: lines [CASES [SEED]].
+
+use independent::generate::frames::frame_case;
+use independent::generate::{Random, Sort};
+use independent::line::{back, out, Parts, BLOCKS, OUTPUT, ROWS, SLOTS, VARIANTS};
+use independent::line_abi as abi;
+use independent::reed_solomon::{check_bytes, is_clean};
+use std::process::ExitCode;
+
+const GUARD: usize = 16;
+
+/// What was met, by number.
+#[derive(Default)]
+struct Met {
+    out: [u64; 24],
+    back: [u64; 13],
+    check: [u64; 2],
+    rows: [u64; 3],
+}
+
+fn main() -> ExitCode {
+    let mut arguments = std::env::args()
+        .skip(1)
+        .map(|a| a.parse().expect("a number"));
+    let cases = arguments.next().unwrap_or(20_000);
+    let seed = arguments.next().unwrap_or(1);
+    let mut met = Met::default();
+    for case in 0..cases {
+        let mut random = Random::new(seed, Sort::Frame, case);
+        if let Err(what) = line(&mut random, &mut met).and_then(|()| row(&mut random, &mut met)) {
+            println!("mismatch: seed {seed}, case {case}: {what}");
+            return ExitCode::FAILURE;
+        }
+    }
+    report(cases, &met)
+}
+
+fn report(cases: u64, met: &Met) -> ExitCode {
+    println!("{cases} cases of a line and of a row");
+    println!("out, by number: {:?}", met.out);
+    println!("back, by number: {:?}", met.back);
+    println!("check bytes, by number: {:?}", met.check);
+    println!("rows not clean, refused, clean: {:?}", met.rows);
+    let answered = [0, 1, 2, 3, 4, 5, 6, 7, 8, 9, 10, 12, 23];
+    let all = answered.iter().all(|&n| met.out[n] > 0)
+        && [0, 1, 12].iter().all(|&n| met.back[n] > 0)
+        && !met.check.contains(&0)
+        && !met.rows.contains(&0);
+    println!(
+        "{}",
+        if all {
+            "no mismatch"
+        } else {
+            "a number was never met"
+        }
+    );
+    if all {
+        ExitCode::SUCCESS
+    } else {
+        ExitCode::FAILURE
+    }
+}
+
+/// The length, or now and then another.
+fn length(random: &mut Random, right: usize) -> usize {
+    if random.one_in(40) {
+        let any = random.below(2 * right + 2);
+        return random.pick(&[0, right.saturating_sub(1), right + 1, any]);
+    }
+    right
+}
+
+fn variant(random: &mut Random) -> (usize, usize) {
+    let v = random.pick(&VARIANTS);
+    let number = if random.one_in(40) {
+        random.pick(&[
+            0,
+            1,
+            5,
+            14,
+            235,
+            226,
+            5375,
+            5377,
+            5591,
+            5593,
+            1 << 32,
+            usize::MAX,
+        ])
+    } else {
+        v.information
+    };
+    (number, ROWS * v.check)
+}
+
+fn parts(random: &mut Random, information: usize, check: usize) -> Parts {
+    let mut part = |right| {
+        let n = length(random, right);
+        random.bytes(n)
+    };
+    Parts {
+        information: part(information),
+        management: part(BLOCKS),
+        supervision: part(BLOCKS),
+        synchronising: part(SLOTS),
+        signalling: part(SLOTS),
+        check: part(check),
+    }
+}
+
+/// A frame out; what came of it, or other bytes, back.
+fn line(random: &mut Random, met: &mut Met) -> Result<(), String> {
+    let (_, frame) = frame_case(random);
+    let (number, check) = variant(random);
+    let lent = parts(random, 0, check);
+    let n = length(random, OUTPUT);
+    let before = random.bytes(n);
+    let expected = out(&frame, number, &lent, n);
+    met.out[usize::from(expected.as_ref().err().copied().unwrap_or(0))] += 1;
+    same("out", random, before.clone(), expected.clone(), |o| {
+        abi::out(&frame, number, &lent, o)
+    })?;
+    home(random, &expected.unwrap_or(before), met)
+}
+
+fn home(random: &mut Random, output: &[u8], met: &mut Met) -> Result<(), String> {
+    let (number, check) = variant(random);
+    let lent = parts(random, number.min(6144), check);
+    let expected = back(output, number, &lent);
+    let answer = expected.as_ref().err().copied().unwrap_or(0);
+    met.back[usize::from(answer)] += 1;
+    let inside = expected.unwrap_or(lent.clone());
+    let guard = random.bytes(GUARD);
+    let guarded = |p: &Parts| six(p).map(|part| [&guard[..], part, &guard].concat());
+    let mut bytes = guarded(&lent);
+    let mut slices = bytes.each_mut().map(|b| {
+        let end = b.len() - GUARD;
+        &mut b[GUARD..end]
+    });
+    let got = abi::back(output, number, &mut slices);
+    if (got, &bytes) != (answer, &guarded(&inside)) {
+        return Err(format!("back: {got} for {answer}, or a byte"));
+    }
+    Ok(())
+}
+
+fn six(p: &Parts) -> [&[u8]; 6] {
+    [
+        &p.information,
+        &p.management,
+        &p.supervision,
+        &p.synchronising,
+        &p.signalling,
+        &p.check,
+    ]
+}
+
+/// Information, its check bytes, and the row of both, as it is and with some bytes changed.
+fn row(random: &mut Random, met: &mut Met) -> Result<(), String> {
+    let v = random.pick(&VARIANTS);
+    let n = length(random, v.width);
+    let information = random.bytes(n);
+    let n = length(random, v.check);
+    let before = random.bytes(n);
+    let expected = check_bytes(&information, n);
+    met.check[usize::from(expected.is_err())] += 1;
+    same(
+        "check bytes",
+        random,
+        before.clone(),
+        expected.clone(),
+        |c| abi::check_bytes(&information, c),
+    )?;
+    let mut row = [information, expected.unwrap_or(before)].concat();
+    for _ in 0..random.pick(&[0, 0, 1, 2, v.check]) {
+        if !row.is_empty() {
+            let at = random.below(row.len());
+            row[at] = random.byte();
+        }
+    }
+    let check = length(random, v.check);
+    let told = is_clean(&row, check);
+    met.rows[told.map_or(1, |clean| 2 * usize::from(clean))] += 1;
+    let n = length(random, 1);
+    let before = random.bytes(n);
+    let expected = if n == 1 {
+        told.map(|c| vec![u8::from(c)])
+    } else {
+        Err(1)
+    };
+    same("row", random, before, expected, |c| {
+        abi::test_row(&row, check, c)
+    })
+}
+
+/// Lends the bytes between guards: the number and every byte must be as expected.
+fn same(
+    what: &str,
+    random: &mut Random,
+    before: Vec<u8>,
+    expected: Result<Vec<u8>, u8>,
+    call: impl FnOnce(&mut [u8]) -> u8,
+) -> Result<(), String> {
+    let guard = random.bytes(GUARD);
+    let mut bytes = [&guard[..], &before, &guard].concat();
+    let got = call(&mut bytes[GUARD..GUARD + before.len()]);
+    let answer = expected.as_ref().err().copied().unwrap_or(0);
+    let inside = expected.unwrap_or(before);
+    if (got, bytes) != (answer, [&guard[..], &inside, &guard].concat()) {
+        return Err(format!("{what}: {got} for {answer}, or a byte"));
+    }
+    Ok(())
+}
