@@ -89,7 +89,7 @@ sent-gathered type body l out t small b seen w e s buffer h xs c =
     let p : items seen ++ xs ≡ items seen ++ told (stringing seen) (message type body ∷ []) =
     sym (calls-follow seen s buffer (framesFrom 0 out) xs h c)
     ∙ ap (λ (x : List ℕ). items (seen ++ framesFrom 0 x)) (t .bytes)
-    ∙ sent-items type n body (k .length) small (omega (arith, k .most)) b seen w e in
+    ∙ sent-items type n body (k .exact) small (omega (arith, k .most)) b seen w e in
     sym (drop-at (items seen) xs (length (items seen)) refl)
     ∙ ap (drop (length (items seen))) p
     ∙ drop-at (items seen) (told (stringing seen) (message type body ∷ [])) (length (items seen)) refl

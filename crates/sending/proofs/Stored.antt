@@ -123,15 +123,15 @@ unfolding bytesOf groupsOf
 all-put l a b r m type n z c p q t =
     let k = length-drop 4 m in
     let k2 = length-drop (4 + 6 * n) m in
-    let four : length (take 4 m) ≡ 4 = length-take-le 4 m (omega (arith, c .length)) in
-    let eights = continuations-length n (drop 4 m) (omega (arith, c .length)) in
+    let four : length (take 4 m) ≡ 4 = length-take-le 4 m (omega (arith, c .exact)) in
+    let eights = continuations-length n (drop 4 m) (omega (arith, c .exact)) in
     let front : List ℕ = startGroup type n (take 4 m) ++ inRow (continuations n (drop 4 m)) in
     let size : length front ≡ 8 + 8 * n = length-append (startGroup type n (take 4 m)) (inRow (continuations n (drop 4 m))) ∙ omega arith in
     let room : length l ≡ 16 + 8 * n = omega (arith, c .room) in
     let f : b ≡ put l 0 front = put-chain l a b 0 8 (startGroup type n (take 4 m)) (inRow (continuations n (drop 4 m))) p q (omega arith) (omega arith) in
     let g : take (8 + 8 * n) b ≡ front = ap₂ take (sym size ∙ sym (zero-add (length front))) f ∙ put-take l 0 front (omega arith) in
     let last : List ℕ = endGroup front (drop (4 + 6 * n) m) in
-    let last-size : length last ≡ 8 = length-append (0xCC ∷ 0 ∷ drop (4 + 6 * n) m) (sent (sumOf (front ++ (0xCC ∷ 0 ∷ drop (4 + 6 * n) m)))) ∙ omega (arith, c .length) in
+    let last-size : length last ≡ 8 = length-append (0xCC ∷ 0 ∷ drop (4 + 6 * n) m) (sent (sumOf (front ++ (0xCC ∷ 0 ∷ drop (4 + 6 * n) m)))) ∙ omega (arith, c .exact) in
     put-chain l b r 0 (8 + 8 * n) front last f (t ∙ ap (λ (x : List ℕ). put b (8 + 8 * n) (endGroup x (drop (4 + 6 * n) m))) g) (sym size ∙ sym (zero-add (length front))) (omega arith)
     ∙ put-all l (front ++ last) (length-append front last ∙ omega arith)
     ∙ sym (each-snoc (λ x. x) (beforeEnd type n m) last)
@@ -148,7 +148,7 @@ none-holds len out false false true true p q r s e =
     let a = ltb-false len 8 p in
     let b = ltb-false 1538 len q in
     let c = eqb-true ((len - 8) % 6) 0 r in
-    record { length = omega arith; most = omega arith; room = eqb-true out (8 * ((len - 8) / 6 + 2)) s }
+    record { exact = omega arith; most = omega arith; room = eqb-true out (8 * ((len - 8) / 6 + 2)) s }
 
 pub carried : (len out r : ℕ) → r ≡ sendRefusal len out → r ≡ 0 → Carries len out
 unfolding sendRefusal

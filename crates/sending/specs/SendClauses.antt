@@ -6,6 +6,6 @@ use Rattle.sending.specs.SentGroups.{grNbFor}
 
 -- a length that the groups carry, with the output that it needs
 pub record Carries (len out : ℕ) : Type 0 where
-  pub length : len ≡ 8 + 6 * grNbFor len
+  pub exact : len ≡ 8 + 6 * grNbFor len
   pub most : grNbFor len ≤ 255
   pub room : out ≡ 8 * (grNbFor len + 2)
