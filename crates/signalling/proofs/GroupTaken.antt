@@ -13,11 +13,11 @@ use Rattle.signalling.specs.declared.Kind.{Kind}
 use Rattle.signalling.specs.declared.Kind.the-variants.{Start, Continuation, End, Other}
 use Rattle.signalling.specs.declared.Group.{Group}
 use Rattle.signalling.specs.declared.Opened.{Opened}
-use Rattle.signalling.specs.declared.Item.{Item}
 use Rattle.signalling.specs.declared.Item.the-variants.{Nothing, Message, Drop}
 use Rattle.signalling.specs.declared.Taken.{Taken}
+use Rattle.signalling.specs.declared.Step.{Step}
 use Rattle.signalling.specs.Messages.{kindIn}
-use Rattle.signalling.specs.OnNumbers.{fed, noMessage, noGroup, startedBy, notDue, placeOf, continuedBy, endedBy, takenBy, bufferBy, outItem, afreshBy, joinBy, wholeBy, stepBy, stepBuffer}
+use Rattle.signalling.specs.OnNumbers.{fed, noMessage, noGroup, startedBy, notDue, placeOf, continuedBy, endedBy, takenBy, bufferBy, outItem, afreshBy, joinBy, wholeBy, stepped, stepBy, stepBuffer}
 use Rattle.signalling.specs.GroupClauses.{Taking, Stepping}
 
 abbrev four : ℕ → ℕ → ℕ → ℕ → List ℕ
@@ -93,12 +93,9 @@ module _ {m : Opened} {g l after : List ℕ} {r : Taken} where
   take-other p q = record { taken = p; buffer = q }
 
 module _ (g : Group) (m : Opened) (fp mnsc : ℕ) (l : List ℕ) where
-  pub steps-out : (i : Item) (next : Group) → (fp % 4 ≡ g .due → ⊥) → i ≡ outItem (g .waiting) → next ≡ afreshBy (fp % 4) mnsc
-      → Stepping g m fp mnsc l (record { item = i; state = record { group = next; message = m } }) l
+  pub steps-out : (r : Step) → (fp % 4 ≡ g .due → ⊥) → r ≡ stepped (outItem (g .waiting)) (afreshBy (fp % 4) mnsc) m → Stepping g m fp mnsc l r l
   unfolding stepBy stepBuffer
-  steps-out i next h p q =
-      let t = ne-eqb (fp % 4) (g .due) h in
-      record { step = rw (t, p, q); buffer = rw t }
+  steps-out r h p = let t = ne-eqb (fp % 4) (g .due) h in record { step = p ∙ rw t; buffer = rw t }
 
   module _ (h : fp % 4 ≡ g .due) where
     pub steps-join : (next : Group) → (g .due ≡ 3 → ⊥) → next ≡ joinBy g mnsc

@@ -7,7 +7,7 @@ ghost use lib.ListN.{length};
 ghost use Rattle.sum.specs.Sum.{sent};
 ghost use Rattle.octets.specs.Stores.{put};
 ghost use Rattle.signalling.specs.Messages.{kindIn};
-ghost use Rattle.signalling.specs.OnNumbers.{fed, startedBy, continuedBy, endedBy, notDue, outItem, begunBy, afreshBy, joinBy, noGroup, noMessage};
+ghost use Rattle.signalling.specs.OnNumbers.{fed, startedBy, continuedBy, endedBy, notDue, outItem, begunBy, afreshBy, joinBy, noGroup, noMessage, stepped};
 ghost use Rattle.signalling.specs.GroupClauses.{Taking, Stepping};
 ghost use Rattle.signalling.specs.Following.{Steps, Begins};
 ghost use Rattle.signalling.specs.declared.Kind.the-variants.{Start, Continuation, End};
@@ -288,7 +288,7 @@ fn begun(mnsc: u16) -> Group
     }
 }
 
-// A frame out of turn.
+// What is told of a frame out of turn: the drop, once.
 fn out_of_turn(waiting: bool) -> Item
     ensures { λ r. ⌜ r ≡ outItem waiting ⌝ }
 {
@@ -298,6 +298,7 @@ fn out_of_turn(waiting: bool) -> Item
     Item::Drop(24)
 }
 
+// A phase 0 begins the next group at once; after any other one is waited for.
 fn afresh(phase: u8, mnsc: u16) -> Group
     ensures { λ r. ⌜ r ≡ afreshBy phase mnsc ⌝ }
 {
@@ -333,6 +334,18 @@ fn join(g: Group, mnsc: u16) -> Group
     }
 }
 
+// A frame out of turn: the group is dropped, and an open message stays open.
+fn drop_group(waiting: bool, phase: u8, mnsc: u16, message: Opened) -> Step
+    ensures { λ r. ⌜ r ≡ stepped (outItem waiting) (afreshBy phase mnsc) message ⌝ }
+{
+    let item = out_of_turn(waiting);
+    let group = afresh(phase, mnsc);
+    Step {
+        item,
+        state: State { group, message },
+    }
+}
+
 // One frame more, the buffer being long enough.
 fn feed_frame(group: Group, message: Opened, fp: u8, mnsc: u16, bytes: &mut [u8]) -> Step
     requires { ⌜ 1538 ≤ length (now bytes) ⌝ }
@@ -341,15 +354,7 @@ fn feed_frame(group: Group, message: Opened, fp: u8, mnsc: u16, bytes: &mut [u8]
     let due = group.due;
     let phase = fp % 4;
     if phase != due {
-        let item = out_of_turn(group.waiting);
-        let next = afresh(phase, mnsc);
-        return Step {
-            item,
-            state: State {
-                group: next,
-                message,
-            },
-        };
+        return drop_group(group.waiting, phase, mnsc, message);
     }
     if due != 3 {
         let next = join(group, mnsc);
@@ -380,15 +385,13 @@ impl State {
     pub fn step(self, fp: u8, mnsc: u16, bytes: &mut [u8]) -> Step
         ensures { λ r. ⌜ Steps self fp mnsc (now (bytes .entry)) r (now (bytes .exit)) ⌝ }
     {
-        let group = self.group;
-        let message = self.message;
         if bytes.len() < 1538 {
             return Step {
                 item: Item::Refused(1),
-                state: State { group, message },
+                state: self,
             };
         }
-        feed_frame(group, message, fp, mnsc, bytes)
+        feed_frame(self.group, self.message, fp, mnsc, bytes)
     }
 }
 

@@ -4,7 +4,7 @@ use Rattle.signalling.proofs.feed_frame.Statement.{statement}
 use Rattle.signalling.proofs.feed_frame.Tie as tie
 
 returns : tie.Need-returns
-returns c = steps-out _ _ _ _ _ _ _ (c .before .before .if1 .taken) (c .before .out-of-turn .ensures) (c .afresh .ensures)
+returns c = steps-out _ _ _ _ _ _ (c .before .if1 .taken) (c .drop-group .ensures)
 
 returns-2 : tie.Need-returns-2
 returns-2 c = steps-join _ _ _ _ _ (c .before .before .if1 .left) _ (c .before .if2 .taken) (c .join .ensures)
@@ -16,7 +16,6 @@ pub feed-frame-spec : {M : Type 1} → statement M
 feed-frame-spec =
     tie.close
     (tie.spec
-    (λ c κs. search needs)
     (λ c κs. search needs)
     returns
     (λ c κs. search needs)

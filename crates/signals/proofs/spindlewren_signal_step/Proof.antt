@@ -9,13 +9,13 @@ returns : tie.Need-returns
 returns c = refused _ _ _ _ 1 (other-length _ _ (c .if1 .taken)) (λ z. omega arith)
 
 returns-2 : tie.Need-returns-2
-returns-2 c = refused _ _ _ _ 1 (short-buffer _ _ (search needs) (c .if2 .taken)) (λ z. omega arith)
+returns-2 c = refused _ _ _ _ 1 (short-buffer _ _ (search needs) (search needs)) (λ z. omega arith)
 
 returns-3 : tie.Need-returns-3
-returns-3 c = refused _ _ _ _ 12 (wide-waiting _ _ (search needs) (search needs) (c .if3 .taken)) (λ z. omega arith)
+returns-3 c = refused _ _ _ _ 12 (wide-waiting _ _ (search needs) (search needs) (search needs)) (λ z. omega arith)
 
 returns-4 : tie.Need-returns-4
-returns-4 c = refused _ _ _ _ 12 (wide-open _ _ (search needs) (search needs) (search needs) (c .if4 .taken)) (λ z. omega arith)
+returns-4 c = refused _ _ _ _ 12 (wide-open _ _ (search needs) (search needs) (search needs) (search needs)) (λ z. omega arith)
 
 returns-5 : tie.Need-returns-5
 returns-5 c =

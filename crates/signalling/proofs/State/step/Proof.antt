@@ -4,7 +4,7 @@ use Rattle.signalling.proofs.State.step.Statement.{statement}
 use Rattle.signalling.proofs.State.step.Tie as tie
 
 returns : tie.Need-returns
-returns c = refuses _ _ _ _ (c .if1 .taken)
+returns c = refuses _ _ _ _ (search needs)
 
 returns-2 : tie.Need-returns-2
 returns-2 c = steps-on _ _ _ _ _ _ (c .before .before .before .before .if1 .left) (c .before .before .feed-frame .ensures)
