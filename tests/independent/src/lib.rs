@@ -8,6 +8,7 @@ pub mod frame;
 pub mod generate;
 pub mod listing;
 pub mod relay;
+pub mod signalling;
 pub mod sum;
 pub mod walk;
 pub mod writing;
