@@ -208,6 +208,17 @@ module _ (seen : List Frame) (w : Bool) (begins : gathering seen ≡ atStart w) 
       (padding u (stringing seen) (missing ∷ (map group bs ++ groups fs))
       ∙ kept-open s cs (q .start) (q .continuing) (omega (arith, q .count)) (stringing seen) (map group bs ++ groups fs))
 
+  -- and where the next message follows: 24, 25 at its start, and then what its own closing sum says
+  pub no-end-next : {s : List ℕ} {cs : List (List ℕ)} {e : List ℕ} → Sequence s cs e → {t : List ℕ} {ds : List (List ℕ)} {z : List ℕ} → Sequence t ds z
+      → (hs bs : List (List ℕ)) → Padded (s ∷ cs) hs → Eights hs → Padded (t ∷ (ds ++ (z ∷ []))) bs → (k : ℕ) → Lost k e bs → (fs : List Frame)
+      → items (seen ++ (framesOf hs ++ (lacking k e ++ (framesOf bs ++ fs)))) ≡ items seen ++ told (stringing seen) (dropped 24 ∷ dropped 25 ∷ closed t ds z ∷ items fs)
+  no-end-next {s} {cs} {e} q {t} {ds} {z} r hs bs u h v k l fs =
+      no-end q hs bs u h k l fs
+      ∙ ap (λ (x : List Handed). items seen ++ told (stringing seen) (dropped 24 ∷ x))
+      (padding v (opened s cs) (groups fs)
+      ∙ ap (λ (x : List Gathered). run string (opened s cs) (group t ∷ x)) (snoc-groups ds z (groups fs))
+      ∙ whole-sequence r (opened s cs) (groups fs))
+
 -- of the start, after a whole group and where no message is open: 24, and 25 for each group that follows; no message
 pub no-start : (seen : List Frame) → gathering seen ≡ sofar [] → stringing seen ≡ shut → {s : List ℕ} {cs : List (List ℕ)} {e : List ℕ} → Sequence s cs e
     → (bs : List (List ℕ)) → Padded (cs ++ (e ∷ [])) bs → (k : ℕ) → Lost k s bs → (fs : List Frame)
