@@ -38,7 +38,7 @@ pub fn out(
     if wrong != 0 {
         return 1;
     }
-    let refusal = reading::judge(frame);
+    let refusal = judging::judge(frame);
     if refusal != 0 {
         return refusal;
     }

@@ -1,6 +1,7 @@
 //! The proved exports, called as C calls them, and the bytes they take and give.
 
 use crate::frame::{Reading, Stream, Table, Timestamp};
+use crate::signalling;
 use crate::walk::{Item, State};
 use crate::writing::Fields;
 
@@ -9,6 +10,7 @@ pub const PART: usize = 4;
 pub const WALK: usize = 20;
 pub const FIELDS: usize = 401;
 pub const ITEM: usize = 10;
+pub const SIGNAL: usize = 24;
 
 /// The kinds of item.
 pub const FRAME_ITEM: u8 = 0;
@@ -17,6 +19,7 @@ pub const DONE_ITEM: u8 = 2;
 
 #[link(name = "controller", kind = "static")]
 #[link(name = "entries", kind = "static")]
+#[link(name = "signals", kind = "static")]
 extern "C" {
     fn spindlewren_read(
         frame: *const u8,
@@ -55,6 +58,21 @@ extern "C" {
         n: usize,
         answer: *mut u8,
         answer_len: usize,
+    ) -> u8;
+    fn spindlewren_signal_step(
+        fp: u8,
+        mnsc: u16,
+        signal: *mut u8,
+        signal_len: usize,
+        bytes: *mut u8,
+        bytes_len: usize,
+    ) -> u8;
+    fn spindlewren_signal_write(
+        kind: u8,
+        message: *const u8,
+        message_len: usize,
+        out: *mut u8,
+        out_len: usize,
     ) -> u8;
 }
 
@@ -128,6 +146,41 @@ pub fn nth(record: &[u8], n: usize, answer: &mut [u8]) -> u8 {
             answer.as_mut_ptr(),
             answer.len(),
         )
+    }
+}
+
+pub fn signal_step(fp: u8, mnsc: u16, signal: &mut [u8], bytes: &mut [u8]) -> u8 {
+    unsafe {
+        spindlewren_signal_step(
+            fp,
+            mnsc,
+            signal.as_mut_ptr(),
+            signal.len(),
+            bytes.as_mut_ptr(),
+            bytes.len(),
+        )
+    }
+}
+
+pub fn signal_write(kind: u8, message: &[u8], out: &mut [u8]) -> u8 {
+    unsafe {
+        spindlewren_signal_write(
+            kind,
+            message.as_ptr(),
+            message.len(),
+            out.as_mut_ptr(),
+            out.len(),
+        )
+    }
+}
+
+/// The item in the last ten of the bytes that a signalling step leaves; a message's bytes are the buffer's first.
+pub fn signal_item(signal: &[u8], buffer: &[u8]) -> Option<signalling::Item> {
+    let (kind, number, length) = (signal[14], signal[15], place_of(&signal[16..]));
+    match kind {
+        0 => None,
+        1 => Some(signalling::Item::Message(number, buffer[..length].to_vec())),
+        _ => Some(signalling::Item::Drop(number)),
     }
 }
 

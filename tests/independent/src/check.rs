@@ -1,5 +1,7 @@
 //! One case through the proved exports and through this implementation.
 
+mod signals;
+
 use crate::abi;
 use crate::frame::{
     fic_part, main_stream_part, read, stream_part, Reading, Stream, Timestamp, FRAME, MOST_STREAMS,
@@ -27,7 +29,7 @@ pub struct Mismatch {
     pub independent: String,
 }
 
-#[derive(Clone, Default)]
+#[derive(Clone)]
 pub struct Tally {
     pub frames: u64,
     pub writings: u64,
@@ -36,6 +38,23 @@ pub struct Tally {
     pub numbers: [u64; 14],
     /// Items done, frames and lost marks.
     pub items: [u64; 3],
+    pub signals: u64,
+    /// Messages, at 0, and drops and refusals of signalling by their number.
+    pub signal_numbers: [u64; 37],
+}
+
+impl Default for Tally {
+    fn default() -> Tally {
+        Tally {
+            frames: 0,
+            writings: 0,
+            records: 0,
+            numbers: [0; 14],
+            items: [0; 3],
+            signals: 0,
+            signal_numbers: [0; 37],
+        }
+    }
 }
 
 impl AddAssign<&Tally> for Tally {
@@ -45,6 +64,8 @@ impl AddAssign<&Tally> for Tally {
         self.records += other.records;
         add_each(&mut self.numbers, &other.numbers);
         add_each(&mut self.items, &other.items);
+        self.signals += other.signals;
+        add_each(&mut self.signal_numbers, &other.signal_numbers);
     }
 }
 
@@ -75,6 +96,7 @@ pub fn check(sort: Sort, seed: u64, number: u64, tally: &mut Tally) -> Checked<(
         Sort::Frame => case.frame(),
         Sort::Writing => case.writing(),
         Sort::Record => case.record(),
+        Sort::Signals => case.signals(),
     }
 }
 

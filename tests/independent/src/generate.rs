@@ -1,7 +1,8 @@
-//! Seeded cases: frames, field sets for writing, and records.
+//! Seeded cases: frames, field sets for writing, records, and frames with signalling.
 
 pub mod frames;
 pub mod records;
+pub mod signals;
 pub mod writings;
 
 /// What a case is of; each sort draws from its own random bytes.
@@ -10,6 +11,7 @@ pub enum Sort {
     Frame = 1,
     Writing = 2,
     Record = 3,
+    Signals = 4,
 }
 
 /// Splitmix64.

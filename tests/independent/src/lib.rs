@@ -12,6 +12,7 @@ pub mod line_abi;
 pub mod listing;
 pub mod reed_solomon;
 pub mod relay;
+pub mod signalling;
 pub mod sum;
 pub mod walk;
 pub mod writing;

@@ -6,13 +6,17 @@ use std::process::ExitCode;
 use std::thread;
 use std::time::{Duration, Instant};
 
-const USAGE: &str = "usage: compare [--seed N] [--frames N] [--records N] [--seconds N]";
+const USAGE: &str =
+    "usage: compare [--seed N] [--frames N] [--records N] [--signals N] [--seconds N]";
 const THREADS: u64 = 2;
+/// A message, and the numbers that signalling tells or refuses with.
+const SIGNAL_NUMBERS: [usize; 7] = [0, 1, 12, 24, 25, 26, 36];
 
 struct Options {
     seed: u64,
     frames: u64,
     records: u64,
+    signals: u64,
     /// Rounds go on until the time is up.
     seconds: Option<u64>,
 }
@@ -46,6 +50,7 @@ fn options(mut arguments: impl Iterator<Item = String>) -> Result<Options, Strin
         seed: 1,
         frames: 200_000,
         records: 5_000,
+        signals: 20_000,
         seconds: None,
     };
     while let Some(name) = arguments.next() {
@@ -55,6 +60,7 @@ fn options(mut arguments: impl Iterator<Item = String>) -> Result<Options, Strin
             "--seed" => options.seed = value,
             "--frames" => options.frames = value,
             "--records" => options.records = value,
+            "--signals" => options.signals = value,
             "--seconds" => options.seconds = Some(value),
             _ => return Err(format!("{name} is not known")),
         }
@@ -105,6 +111,7 @@ fn part(seed: u64, options: &Options, thread: u64) -> Result<Tally, Found> {
         (Sort::Record, options.records),
         (Sort::Frame, options.frames),
         (Sort::Writing, options.frames),
+        (Sort::Signals, options.signals),
     ];
     for (sort, count) in sorts {
         for case in (thread..count).step_by(THREADS as usize) {
@@ -119,6 +126,7 @@ fn part(seed: u64, options: &Options, thread: u64) -> Result<Tally, Found> {
 }
 
 fn report(tally: &Tally) -> ExitCode {
+    let mut never = false;
     println!("frames {}", tally.frames);
     println!("writings {}", tally.writings);
     println!("records {}", tally.records);
@@ -127,7 +135,13 @@ fn report(tally: &Tally) -> ExitCode {
     for (number, count) in tally.numbers.iter().enumerate() {
         println!("number {number}: {count} cases");
     }
-    if tally.numbers.contains(&0) {
+    println!("signalling {}", tally.signals);
+    for number in SIGNAL_NUMBERS {
+        let count = tally.signal_numbers[number];
+        println!("signalling, number {number}: {count} times");
+        never |= count == 0;
+    }
+    if never || tally.numbers.contains(&0) {
         println!("a number was never met");
         return ExitCode::FAILURE;
     }

@@ -1,0 +1,4 @@
+pub mod Stored
+pub mod Again
+pub mod Coming
+pub mod Sent

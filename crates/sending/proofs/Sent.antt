@@ -1,0 +1,95 @@
+-- End to end: the bytes that `send` leaves, fed to the step pair by pair, give exactly that message.
+-- Assumes nothing.
+use mathlib.Core.Bool.{Bool}
+use mathlib.Core.List.{List, [], _∷_, _++_, append-nil}
+use mathlib.Core.Path.{_≡_, refl, sym, ap, _∙_}
+use Prim.Native.Nat.{ℕ, zero, suc, _+_, _*_, _/_, _^_, _≤_, _<_}
+use native.Mathlib.Nat.{mod-lt}
+use native.Mathlib.Omega.{arith}
+use lib.Dec.{lit<}
+use lib.ListN.{length, take, drop, length-drop}
+use lib.Seq.{length-take-le, drop-at}
+use Rattle.sum.specs.Sum.{sumOf, sent}
+use Rattle.sum.proofs.Laws.{sum-lt}
+use Rattle.signalling.specs.declared.State.{State}
+use Rattle.signalling.specs.Feeding.{run}
+use Rattle.signalling.specs.Groups.{Frame, gathering}
+use Rattle.signalling.specs.Messages.{inRow, Handed, message, items, stringing}
+use Rattle.signalling.specs.Following.{Holds, Calls}
+use Rattle.signalling.proofs.Holding.{calls-follow}
+use Rattle.sending.specs.SentGroups.{endGroup, continuations, beforeEnd, groupsOf, grNbFor, bytesOf, framesFrom, framesOf, Sends}
+use Rattle.sending.specs.SendClauses.{Carries}
+use Rattle.sending.specs.MessageTrips.{Octets, Eights, Padded, atStart, told}
+use Rattle.sending.proofs.Stored.{carried}
+use Rattle.sending.proofs.Again.{end-length, last-four, back-again}
+
+-- ---- the groups' bytes are bytes
+joined : {xs ys : List ℕ} → Octets xs → Octets ys → Octets (xs ++ ys)
+joined Octets.none q = q
+joined (Octets.more h p) q = Octets.more h (joined p q)
+
+takes : (k : ℕ) {l : List ℕ} → Octets l → Octets (take k l)
+takes zero h = Octets.none
+takes (suc k) Octets.none = Octets.none
+takes (suc k) (Octets.more p h) = Octets.more p (takes k h)
+
+drops : (k : ℕ) {l : List ℕ} → Octets l → Octets (drop k l)
+drops zero h = h
+drops (suc k) Octets.none = Octets.none
+drops (suc k) (Octets.more p h) = drops k h
+
+sent-bytes : (ns : List ℕ) → Octets (sent (sumOf ns))
+sent-bytes ns =
+    let h = sum-lt ns in
+    let a : sumOf ns / 2 ^ 8 < 256 = omega arith in
+    Octets.more a (Octets.more (mod-lt (sumOf ns) (lit< tt)) Octets.none)
+
+continued-eights : (n : ℕ) (body last : List ℕ) → 6 * n ≤ length body → Octets body → length last ≡ 8 → Octets last → Eights (continuations n body ++ (last ∷ []))
+unfolding continuations
+continued-eights zero body last h b e o = Eights.more e o Eights.none
+continued-eights (suc n) body last h b e o =
+    let k = length-take-le 6 body (omega arith) in
+    let d = length-drop 6 body in
+    Eights.more (ap (λ (m : ℕ). suc (suc m)) k) (Octets.more (lit< tt) (Octets.more (lit< tt) (takes 6 b))) (continued-eights n (drop 6 body) last (omega arith) (drops 6 b) e o)
+
+unpadded : (gs : List (List ℕ)) → Padded gs gs
+unpadded [] = Padded.none
+unpadded (g ∷ gs) = Padded.same (unpadded gs)
+
+no-items : items [] ≡ []
+unfolding run
+no-items = refl
+
+module _ (type n : ℕ) (body : List ℕ) (h : length body ≡ 8 + 6 * n) (t : type < 256) (m : n < 256) (b : Octets body) where
+  pub sent-eights : Eights (groupsOf type n body)
+  unfolding groupsOf
+  sent-eights =
+      let k = length-take-le 4 body (omega arith) in
+      let d = length-drop 4 body in
+      let before = inRow (beforeEnd type n body) in
+      let last = drop (4 + 6 * n) body in
+      Eights.more (ap (λ (j : ℕ). suc (suc (suc (suc j)))) k) (Octets.more (lit< tt) (Octets.more (lit< tt) (Octets.more t (Octets.more m (takes 4 b)))))
+      (continued-eights n (drop 4 body) (endGroup before last) (omega arith) (drops 4 b) (end-length before last (last-four type n body h))
+      (joined (Octets.more (lit< tt) (Octets.more (lit< tt) (drops (4 + 6 * n) b))) (sent-bytes (before ++ (0xCC ∷ 0 ∷ last)))))
+
+  sent-items : (seen : List Frame) (w : Bool) → gathering seen ≡ atStart w → items (seen ++ framesOf (groupsOf type n body)) ≡ items seen ++ told (stringing seen) (message type body ∷ [])
+  sent-items seen w e =
+      ap (λ (x : List Frame). items (seen ++ x)) (sym (append-nil (framesOf (groupsOf type n body))))
+      ∙ back-again type n body h seen w e (groupsOf type n body) (unpadded (groupsOf type n body)) sent-eights []
+      ∙ ap (λ (l : List Handed). items seen ++ told (stringing seen) (message type body ∷ l)) no-items
+
+-- SENT AND GATHERED: what `send` leaves, in frames, given to calls of the step from any state that holds the frames seen and is at a group's beginning
+pub sent-gathered : (type : ℕ) (body l out : List ℕ) → Sends type body l 0 out → type < 256 → Octets body
+    → (seen : List Frame) (w : Bool) → gathering seen ≡ atStart w → (s : State) (buffer : List ℕ) → Holds (gathering seen) (stringing seen) s buffer
+    → (xs : List Handed) → Calls s buffer (framesFrom 0 out) xs → xs ≡ told (stringing seen) (message type body ∷ [])
+unfolding bytesOf
+sent-gathered type body l out t small b seen w e s buffer h xs c =
+    let k : Carries (length body) (length l) = carried (length body) (length l) 0 (t .number) refl in
+    let n = grNbFor (length body) in
+    let p : items seen ++ xs ≡ items seen ++ told (stringing seen) (message type body ∷ []) =
+    sym (calls-follow seen s buffer (framesFrom 0 out) xs h c)
+    ∙ ap (λ (x : List ℕ). items (seen ++ framesFrom 0 x)) (t .bytes)
+    ∙ sent-items type n body (k .exact) small (omega (arith, k .most)) b seen w e in
+    sym (drop-at (items seen) xs (length (items seen)) refl)
+    ∙ ap (drop (length (items seen))) p
+    ∙ drop-at (items seen) (told (stringing seen) (message type body ∷ [])) (length (items seen)) refl

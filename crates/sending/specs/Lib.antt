@@ -1,0 +1,3 @@
+pub mod SentGroups
+pub mod SendClauses
+pub mod MessageTrips

@@ -1,0 +1,6 @@
+pub mod Pairs
+pub mod Register
+pub mod Fed
+pub mod Stringing
+pub mod Holding
+pub mod GroupTaken

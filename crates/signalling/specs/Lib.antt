@@ -1,0 +1,6 @@
+pub mod Feeding
+pub mod Groups
+pub mod Messages
+pub mod OnNumbers
+pub mod Following
+pub mod GroupClauses

@@ -1,0 +1,2 @@
+pub mod SignalBack
+pub mod CSignals

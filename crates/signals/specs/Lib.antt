@@ -1,0 +1,2 @@
+pub mod SignalBytes
+pub mod SignalClauses
