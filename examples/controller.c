@@ -74,11 +74,13 @@ static void sums(const uint8_t *frame, const uint8_t *answer) {
 static void item_line(struct record record, const uint8_t *walk) {
     uint8_t answer[SPINDLEWREN_ANSWER];
     uint64_t place = spindlewren_number(walk, SPINDLEWREN_ITEM, 8);
-    unsigned lost = walk[SPINDLEWREN_LOST];
+    uint8_t number = walk[SPINDLEWREN_NUMBER];
     if (walk[SPINDLEWREN_KIND] == SPINDLEWREN_IS_DONE)
         printf("end %llu\n", (unsigned long long)place);
     else if (walk[SPINDLEWREN_KIND] == SPINDLEWREN_IS_LOST)
-        printf("%llu lost %u - %s\n", (unsigned long long)place, lost, spindlewren_label((uint8_t)lost));
+        printf("%llu lost %u - %s\n", (unsigned long long)place, number, spindlewren_label(number));
+    else if (walk[SPINDLEWREN_KIND] == SPINDLEWREN_IS_IDLE)
+        printf("%llu idle %u -\n", (unsigned long long)place, number);
     else if (spindlewren_read(record.bytes + place, SPINDLEWREN_FRAME, answer, sizeof answer) == 0) {
         printf("%llu frame %u %u", (unsigned long long)place, answer[SPINDLEWREN_FCT], answer[SPINDLEWREN_LEVEL]);
         sums(record.bytes + place, answer);

@@ -58,7 +58,7 @@ enum {
     SPINDLEWREN_MISSES = 8,
     SPINDLEWREN_LOCK = 9,
     SPINDLEWREN_KIND = 10,
-    SPINDLEWREN_LOST = 11,   /* the refusal number of a lost mark, else 0 */
+    SPINDLEWREN_NUMBER = 11, /* the refusal number of a lost mark, 4 of an idle item, else 0 */
     SPINDLEWREN_ITEM = 12    /* 8: the item's place */
 };
 
@@ -66,7 +66,8 @@ enum {
 enum {
     SPINDLEWREN_IS_FRAME = 0,
     SPINDLEWREN_IS_LOST = 1,
-    SPINDLEWREN_IS_DONE = 2
+    SPINDLEWREN_IS_IDLE = 2, /* a null transmission in lock */
+    SPINDLEWREN_IS_DONE = 3
 };
 
 /* The refusal numbers. 11 belongs to writing alone. */

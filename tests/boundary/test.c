@@ -120,7 +120,9 @@ static void line(const uint8_t *record, const uint8_t *walk, char *text, size_t 
     if (walk[SPINDLEWREN_KIND] == SPINDLEWREN_IS_DONE) {
         snprintf(text, size, "end %lu\n", place);
     } else if (walk[SPINDLEWREN_KIND] == SPINDLEWREN_IS_LOST) {
-        snprintf(text, size, "%lu lost %u -\n", place, walk[SPINDLEWREN_LOST]);
+        snprintf(text, size, "%lu lost %u -\n", place, walk[SPINDLEWREN_NUMBER]);
+    } else if (walk[SPINDLEWREN_KIND] == SPINDLEWREN_IS_IDLE) {
+        snprintf(text, size, "%lu idle %u -\n", place, walk[SPINDLEWREN_NUMBER]);
     } else {
         hold(spindlewren_read(record + place, SPINDLEWREN_FRAME, answer, sizeof answer) == 0, "frame handed out", place);
         snprintf(text, size, "%lu frame %u %u\n", place, answer[SPINDLEWREN_FCT], answer[SPINDLEWREN_LEVEL]);

@@ -15,7 +15,7 @@ use Rattle.frame.specs.declared.Timestamp.{Timestamp}
 use Rattle.frame.specs.declared.Timestamp.the-variants.{Absent, Time, Reserved}
 use Rattle.frame.specs.Answers.{digit, sortOf, headerValues, noStream}
 use Rattle.walk.specs.declared.Item.{Item}
-use Rattle.walk.specs.declared.Item.the-variants.{Frame, Lost, Done}
+use Rattle.walk.specs.declared.Item.the-variants.{Frame, Lost, Idle, Done}
 use Rattle.walk.specs.declared.State.{State}
 use Rattle.walk.specs.ItemValues.{kindOf, placeOf}
 use Rattle.controller.specs.Boundary.{encode, headCounts, firstCounts, firstValues, secondCounts, secondValues, thirdCounts, thirdValues, streamBytes, tableBytes, marksCounts, marksValues, stepBytes}
@@ -33,6 +33,7 @@ sort-alone (Reserved n) = refl
 pub kind-alone : (x : Item) → kindOf x / 1 % 256 ≡ kindOf x
 kind-alone (Frame p h) = refl
 kind-alone (Lost p n) = refl
+kind-alone (Idle p) = refl
 kind-alone (Done p) = refl
 
 pub bytes-length : (ss : List Stream) → length (tableBytes ss) ≡ 6 * length ss

@@ -18,7 +18,7 @@ use Rattle.frame.specs.Writing.{streamValues}
 use Rattle.walk.specs.declared.Item.{Item}
 use Rattle.walk.specs.declared.State.{State}
 use Rattle.walk.specs.declared.Step.{Step}
-use Rattle.walk.specs.ItemValues.{kindOf, placeOf, lostOf}
+use Rattle.walk.specs.ItemValues.{kindOf, placeOf, numberOf}
 use Rattle.walk.specs.Records.{stepAt}
 
 -- values one after another, each in its number of bytes, high byte first
@@ -75,7 +75,7 @@ abbrev pub marksCounts : List ℕ
 marksCounts = 1 ∷ 1 ∷ 1 ∷ 1 ∷ []
 
 abbrev pub marksValues : Item → State → List ℕ
-marksValues x s = s .misses ∷ digit (s .lock) ∷ kindOf x ∷ lostOf x ∷ []
+marksValues x s = s .misses ∷ digit (s .lock) ∷ kindOf x ∷ numberOf x ∷ []
 
 -- a walk's 20 bytes: its place, the marks, and the item's place
 unfoldable pub stepBytes : Item → State → List ℕ

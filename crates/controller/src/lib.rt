@@ -6,7 +6,7 @@ ghost use lib.ListN.{length};
 ghost use Rattle.octets.specs.Stores.{put};
 ghost use Rattle.frame.specs.Rules.{refusalOf, streamRefusalOf, ficPart, streamPart};
 ghost use Rattle.frame.specs.Answers.{digit, sortOf, headerValues, timeBy};
-ghost use Rattle.walk.specs.ItemValues.{kindOf, placeOf, lostOf};
+ghost use Rattle.walk.specs.ItemValues.{kindOf, placeOf, numberOf};
 ghost use Rattle.controller.specs.Boundary.{encode, headCounts, firstCounts, firstValues, secondCounts, secondValues, thirdCounts, thirdValues, streamBytes, tableBytes, answerOf, partBytes, marksCounts, marksValues, stepBytes, stateIn, walkOf, stateRefusalOf, Told};
 use frame::Answer;
 use frame::Header;
@@ -215,16 +215,18 @@ fn kind(item: Item) -> u8
     match item {
         Item::Frame(_, _) => 0,
         Item::Lost(_, _) => 1,
-        Item::Done(_) => 2,
+        Item::Idle(_) => 2,
+        Item::Done(_) => 3,
     }
 }
 
-fn lost(item: Item) -> u8
-    ensures { λ r. ⌜ (r ≡ lostOf item) × (r < 256) ⌝ }
+fn number(item: Item) -> u8
+    ensures { λ r. ⌜ (r ≡ numberOf item) × (r < 256) ⌝ }
 {
     match item {
         Item::Frame(_, _) => 0,
         Item::Lost(_, n) => n,
+        Item::Idle(_) => 4,
         Item::Done(_) => 0,
     }
 }
@@ -235,6 +237,7 @@ fn place(item: Item) -> usize
     match item {
         Item::Frame(p, _) => p,
         Item::Lost(p, _) => p,
+        Item::Idle(p) => p,
         Item::Done(p) => p,
     }
 }
@@ -246,11 +249,11 @@ fn put_marks(out: &mut [u8], item: Item, walk: State)
 {
     let lock = bit(walk.lock);
     let kind = kind(item);
-    let lost = lost(item);
+    let number = number(item);
     out[8] = walk.misses as u8;
     out[9] = lock;
     out[10] = kind;
-    out[11] = lost;
+    out[11] = number;
 }
 
 // The advanced walk in ten bytes, and its item in ten.

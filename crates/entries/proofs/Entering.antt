@@ -33,6 +33,6 @@ module _ (b main was : List ℕ) where
       record { number = w .number ∙ (rw y); output = w .output ∙ (rw y) }
 
 -- two bytes and then a place are an item's ten
-pub ten-stored : (l a b : List ℕ) (kind lost n : ℕ) → length l ≡ 10 → a ≡ put l 0 (kind ∷ lost ∷ []) → b ≡ put a 2 (split bytes8 n) → b ≡ tenBytes kind lost n
-ten-stored l a b kind lost n h p q =
-    put-chain l a b 0 2 (kind ∷ lost ∷ []) (split bytes8 n) p q refl (omega arith) ∙ put-all l (kind ∷ lost ∷ split bytes8 n) (omega arith)
+pub ten-stored : (l a b : List ℕ) (kind number n : ℕ) → length l ≡ 10 → a ≡ put l 0 (kind ∷ number ∷ []) → b ≡ put a 2 (split bytes8 n) → b ≡ tenBytes kind number n
+ten-stored l a b kind number n h p q =
+    put-chain l a b 0 2 (kind ∷ number ∷ []) (split bytes8 n) p q refl (omega arith) ∙ put-all l (kind ∷ number ∷ split bytes8 n) (omega arith)

@@ -4,11 +4,11 @@ use mathlib.Core.List.{List, _∷_}
 use Prim.Native.Nat.{ℕ}
 use Rattle.walk.specs.declared.Item.{Item}
 use Rattle.octets.specs.Words.{split, bytes8}
-use Rattle.walk.specs.ItemValues.{kindOf, lostOf, placeOf}
+use Rattle.walk.specs.ItemValues.{kindOf, numberOf, placeOf}
 
 -- a kind, a refusal number and a place
 abbrev pub tenBytes : ℕ → ℕ → ℕ → List ℕ
-tenBytes kind lost place = kind ∷ lost ∷ split bytes8 place
+tenBytes kind number place = kind ∷ number ∷ split bytes8 place
 
 unfoldable pub itemBytes : Item → List ℕ
-itemBytes x = tenBytes (kindOf x) (lostOf x) (placeOf x)
+itemBytes x = tenBytes (kindOf x) (numberOf x) (placeOf x)

@@ -102,19 +102,19 @@ pub extern "C" fn spindlewren_relay(frame: &[u8], out: &mut [u8]) -> u8
     relay::relay(frame, out)
 }
 
-fn put_two(out: &mut [u8], kind: u8, lost: u8)
+fn put_two(out: &mut [u8], kind: u8, number: u8)
     requires { ⌜ length (now out) ≡ 10 ⌝ }
-    ensures { λ _. ⌜ now (out .exit) ≡ put (now (out .entry)) 0 (kind ∷ lost ∷ []) ⌝ }
+    ensures { λ _. ⌜ now (out .exit) ≡ put (now (out .entry)) 0 (kind ∷ number ∷ []) ⌝ }
 {
     out[0] = kind;
-    out[1] = lost;
+    out[1] = number;
 }
 
-fn put_ten(out: &mut [u8], kind: u8, lost: u8, n: usize)
+fn put_ten(out: &mut [u8], kind: u8, number: u8, n: usize)
     requires { ⌜ length (now out) ≡ 10 ⌝ }
-    ensures { λ _. ⌜ now (out .exit) ≡ tenBytes kind lost n ⌝ }
+    ensures { λ _. ⌜ now (out .exit) ≡ tenBytes kind number n ⌝ }
 {
-    put_two(out, kind, lost);
+    put_two(out, kind, number);
     octets::put8(out, 2, n);
 }
 
@@ -125,7 +125,8 @@ fn put_item(out: &mut [u8], item: Item)
     match item {
         Item::Frame(p, _) => put_ten(out, 0, 0, p),
         Item::Lost(p, n) => put_ten(out, 1, n, p),
-        Item::Done(p) => put_ten(out, 2, 0, p),
+        Item::Idle(p) => put_ten(out, 2, 4, p),
+        Item::Done(p) => put_ten(out, 3, 0, p),
     }
 }
 

@@ -1,16 +1,18 @@
--- A frame is accepted exactly when it is acceptable: the rules and the plain words say the same.
+-- A frame is accepted exactly when it is acceptable, and refused with 4 exactly when it is a null transmission: the rules and the plain words say the same.
 -- Assumes nothing.
 use mathlib.Core.List.{List, [], _∷_}
 use mathlib.Core.Path.{_≡_, sym, _∙_}
 use Prim.Native.Nat.{ℕ, _≤_, _<_}
-use lib.Dec.{leb}
-use borrow.Author.Tests.{ne-eqb, le-ltb, le-leb, lt-leb, eqb-true, eqb-false, ltb-false, leb-false, not-false}
+use native.Mathlib.Omega.{arith}
+use lib.Dec.{lit<, leb}
+use lib.ListN.{drop}
+use borrow.Author.Tests.{eq-eqb, ne-eqb, le-ltb, le-leb, lt-leb, eqb-true, eqb-false, ltb-false, leb-false, not-false}
 use Rattle.octets.proofs.Deciding.{equal}
 use Rattle.frame.specs.Frame.{errOf, fsyncOf, nstOf}
-use Rattle.frame.specs.Rules.{_when_, first, rulesOf, refusalOf, Acceptable, streamRefusalOf}
+use Rattle.frame.specs.Rules.{_when_, first, rulesOf, refusalOf, Acceptable, NullTransmission, streamRefusalOf}
 use Rattle.frame.proofs.Places.{fsync-one, fsync-placed, status-one, status-placed}
 use Rattle.frame.proofs.Streams.{each-within, none-above}
-use Rattle.frame.proofs.FirstRule.{NoneHold, none-hold, none-first, first-zero, first-found}
+use Rattle.frame.proofs.FirstRule.{NoneHold, none-hold, none-first, first-zero, first-found, passed-over, holds-there}
 
 pub nothing : (f : List ℕ) → refusalOf f ≡ 0 → NoneHold (rulesOf f)
 unfolding refusalOf
@@ -58,6 +60,24 @@ accepted f a =
         ),
       ),
     )
+
+pub null-transmission : (f : List ℕ) → refusalOf f ≡ 4 → NullTransmission f
+unfolding refusalOf
+null-transmission f e =
+    let (a, p) = passed-over 1 4 _ (drop 1 (rulesOf f)) (λ z. omega arith) e in
+    let (b, q) = passed-over 2 4 _ (drop 2 (rulesOf f)) (λ z. omega arith) p in
+    let (c, r) = passed-over 3 4 _ (drop 3 (rulesOf f)) (λ z. omega arith) q in
+    record {
+      whole = eqb-true _ _ (not-false _ a);
+      synced = fsync-one (fsyncOf f) (ltb-false _ _ b);
+      status = status-one (errOf f) (ltb-false _ _ c);
+      null = eqb-true _ _ (holds-there 4 _ (drop 4 (rulesOf f)) (lit< tt) (tt, (tt, (tt, (tt, (tt, (tt, tt)))))) r);
+    }
+
+pub refused-null : (f : List ℕ) → NullTransmission f → refusalOf f ≡ 4
+unfolding refusalOf
+refused-null f a =
+    rw (equal (a .whole), le-ltb _ _ (fsync-placed (fsyncOf f) (a .synced)), le-ltb _ _ (status-placed (errOf f) (a .status)), eq-eqb _ _ (a .null))
 
 -- a request for stream i, by reading's refusal n, and in an accepted frame by the count
 module _ (f : List ℕ) (i n : ℕ) (e : n ≡ refusalOf f) where

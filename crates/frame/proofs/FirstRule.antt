@@ -4,7 +4,7 @@ use mathlib.Core.Bool.{Bool, true, false}
 use mathlib.Core.List.{List, [], _∷_, _++_}
 use mathlib.Core.Logic.{_⊎_, inl, inr}
 use mathlib.Core.Path.{_≡_, refl, ap}
-use Prim.Native.Nat.{ℕ}
+use Prim.Native.Nat.{ℕ, _<_}
 use native.Mathlib.Omega.{arith}
 use lib.Dec.{T, ltb, ltb→lt}
 use Rattle.octets.specs.Choice.{pick}
@@ -15,10 +15,10 @@ abbrev pub NoneHold : List Rule → Type 0
 NoneHold [] = Unit {0}
 NoneHold ((n when b) ∷ rs) = (b ≡ false) × NoneHold rs
 
--- every number is above 0, so that 0 says that no rule holds
-abbrev pub Numbered : List Rule → Type 0
-Numbered [] = Unit {0}
-Numbered ((n when b) ∷ rs) = T (ltb 0 n) × Numbered rs
+-- every number is above m; above 0, 0 says that no rule holds
+abbrev pub Above : ℕ → List Rule → Type 0
+Above m [] = Unit {0}
+Above m ((n when b) ∷ rs) = T (ltb m n) × Above m rs
 
 -- rule n holds, and no earlier one
 pub record FirstToHold (rs : List Rule) (n : ℕ) : Type 0 where
@@ -56,7 +56,7 @@ passed : (b : Bool) (n m : ℕ) → T (ltb 0 n) → pick b n m ≡ 0 → (b ≡ 
 passed true n m l e = let p = ltb→lt 0 n l in absurd (omega arith)
 passed false n m l e = (refl, e)
 
-pub none-hold : (rs : List Rule) → Numbered rs → first rs ≡ 0 → NoneHold rs
+pub none-hold : (rs : List Rule) → Above 0 rs → first rs ≡ 0 → NoneHold rs
 none-hold [] k e = tt
 none-hold ((n when b) ∷ rs) k e = let p = passed b n (first rs) (k .0) e in (p .0, none-hold rs (k .1) (p .1))
 
@@ -72,3 +72,17 @@ pub first-found : (rs ts : List Rule) → (first rs ≡ 0 → ⊥) → first (rs
 first-found [] ts h = absurd (h refl)
 first-found ((n when true) ∷ rs) ts h = refl
 first-found ((n when false) ∷ rs) ts h = first-found rs ts h
+
+-- a first number m, at a rule with another number, and at rule m where the later ones have greater
+pub passed-over : (n m : ℕ) (b : Bool) (rs : List Rule) → (n ≡ m → ⊥) → first ((n when b) ∷ rs) ≡ m → (b ≡ false) × (first rs ≡ m)
+passed-over n m true rs h e = absurd (h e)
+passed-over n m false rs h e = (refl, e)
+
+not-later : (m : ℕ) (rs : List Rule) → 0 < m → Above m rs → first rs ≡ m → ⊥
+not-later m [] h k e = omega arith
+not-later m ((n when true) ∷ rs) h k e = let p = ltb→lt m n (k .0) in omega arith
+not-later m ((n when false) ∷ rs) h k e = not-later m rs h (k .1) e
+
+pub holds-there : (m : ℕ) (b : Bool) (rs : List Rule) → 0 < m → Above m rs → first ((m when b) ∷ rs) ≡ m → b ≡ true
+holds-there m true rs h k e = refl
+holds-there m false rs h k e = absurd (not-later m rs h k e)

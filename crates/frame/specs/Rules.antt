@@ -59,6 +59,13 @@ pub record Acceptable (f : List ℕ) : Type 0 where
   pub formula : flOf f ≡ nstOf f + 1 + ficlOf f + 2 * stlTotal (streamsOf f)
   pub room : flOf f ≤ 1532
 
+-- a null transmission, in plain words: the sync word and the status byte are good, and logical bytes 0 to 3 are all FF
+pub record NullTransmission (f : List ℕ) : Type 0 where
+  pub whole : length f ≡ 6144
+  pub synced : (fsyncOf f ≡ 0x073AB6) ⊎ (fsyncOf f ≡ 0xF8C549)
+  pub status : (errOf f ≡ 0xFF) ⊎ ((errOf f ≡ 0xF0) ⊎ ((errOf f ≡ 0x0F) ⊎ (errOf f ≡ 0x00)))
+  pub null : wordAt f 4 ≡ 0xFFFFFFFF
+
 -- a request for stream i: reading's refusal first, then 13
 unfoldable pub streamRefusalOf : List ℕ → ℕ → ℕ
 streamRefusalOf f i = first (rulesOf f ++ ((13 when leb (nstOf f) i) ∷ []))

@@ -33,6 +33,11 @@ fn show(item: Item) -> bool {
             text(b" -\n");
             true
         }
+        Item::Idle(p) => {
+            item_line(p, b" idle ", 4);
+            text(b" -\n");
+            true
+        }
         Item::Done(p) => {
             text(b"end ");
             number(p);

@@ -2,14 +2,14 @@
 -- Assumes nothing.
 use Prim.Native.Nat.{ℕ, _+_, _≤_, _<_}
 use mathlib.Core.Path.{_≡_, refl}
-use mathlib.Core.Bool.{Bool, true, false, not, and-false, _&&_}
+use mathlib.Core.Bool.{Bool, true, false, not, and-false, _&&_, _||_}
 use mathlib.Core.Option.{none, some}
 use lib.Dec.{leb, ltb}
 use native.Mathlib.Omega.{arith}
 use borrow.Author.Tests.{leb-true, leb-false, ltb-true, lt-leb}
 use Rattle.frame.specs.declared.Header.{Header}
 use Rattle.octets.specs.Choice.{pick}
-use Rattle.walk.specs.Walk.{Judged, State, Frame, Lost, Done, Look, fits, confirmed, live, frameAt, itemAt, keeps, lookLocked, lookHunting, look, locked, hunting}
+use Rattle.walk.specs.Walk.{Judged, State, Item, Frame, Lost, Idle, Done, Look, fits, confirmed, live, frameAt, itemAt, keeps, lookLocked, lookHunting, look, locked, hunting}
 use Rattle.walk.specs.ItemValues.{placeOf}
 
 pub and-left : (a b : Bool) → (a && b) ≡ true → a ≡ true
@@ -47,39 +47,41 @@ module _ (R : Judged) (p : ℕ) where
   unfolding confirmed
   unfollowed h = rw (lt-leb (p + R .period + R .period) (R .len) h) (and-false (R .stands p))
 
--- OF `itemAt` AND `keeps`, all that the proofs use: these three, with `frame-keeps`
+-- OF `itemAt` AND `keeps`: a place that stands gives its frame, a null transmission an idle item, and both keep the lock; any other gives a lost mark
+pub by-item : (R : Judged) (p : ℕ) (Q : Item → Bool → Type 0) →
+    (R .stands p ≡ true → Q (frameAt R p) true) →
+    (R .null p ≡ true → Q (Idle p) true) →
+    (R .stands p ≡ false → R .null p ≡ false → Q (Lost p (R .number p)) false) →
+    Q (itemAt R p) (keeps R p)
+unfolding itemAt keeps
+by-item R p Q frame idle lost = go (R .stands p) (R .null p) refl refl
+  where
+    go : (a b : Bool) → R .stands p ≡ a → R .null p ≡ b → Q (pick a (frameAt R p) (pick b (Idle p) (Lost p (R .number p)))) (a || b)
+    go true b e d = frame e
+    go false true e d = idle d
+    go false false e d = lost e d
+
+-- .. of which the proofs use these three, with `frame-keeps`
 pub stands-keeps : (R : Judged) (p : ℕ) → R .stands p ≡ true → keeps R p ≡ true
 unfolding keeps
-stands-keeps R p e = e
+stands-keeps R p e = rw e
 
 pub stands-item : (R : Judged) (p : ℕ) → R .stands p ≡ true → itemAt R p ≡ frameAt R p
 unfolding itemAt
 stands-item R p e = rw e
 
 pub place-item : (R : Judged) (p : ℕ) → placeOf (itemAt R p) ≡ p
-unfolding itemAt
-place-item R p = go (R .stands p)
-  where
-    go : (b : Bool) → placeOf (pick b (frameAt R p) (Lost p (R .number p))) ≡ p
-    go true = refl
-    go false = refl
+place-item R p = by-item R p (λ x b. placeOf x ≡ p) (λ e. refl) (λ e. refl) (λ e d. refl)
 
 -- an item in lock is a frame only where the lock is kept, and it is never done
 frame-keeps : (R : Judged) (p q : ℕ) (h : Header) → itemAt R p ≡ Frame q h → (p ≡ q) × (keeps R p ≡ true)
-unfolding itemAt keeps
-frame-keeps R p q h = go (R .stands p)
-  where
-    go : (b : Bool) → pick b (frameAt R p) (Lost p (R .number p)) ≡ Frame q h → (p ≡ q) × (b ≡ true)
-    go true e = (cc, refl)
-    go false e = (cc, cc)
+frame-keeps R p q h = by-item R p (λ x b. x ≡ Frame q h → (p ≡ q) × (b ≡ true)) (λ e w. (cc, refl)) (λ e w. (cc, refl)) (λ e d w. (cc, cc))
 
 item-not-done : (R : Judged) (p q : ℕ) → itemAt R p ≡ Done q → ⊥
-unfolding itemAt
-item-not-done R p q = go (R .stands p)
+item-not-done R p q = by-item R p (λ x b. x ≡ Done q → ⊥) (λ e w. clash (cc)) (λ e w. clash (cc)) (λ e d w. clash (cc))
   where
-    go : (b : Bool) → pick b (frameAt R p) (Lost p (R .number p)) ≡ Done q → ⊥
-    go true e = let z : _≡_ {A = ℕ} 0 1 = cc in omega arith
-    go false e = let z : _≡_ {A = ℕ} 0 1 = cc in omega arith
+    clash : _≡_ {A = ℕ} 0 1 → ⊥
+    clash z = omega arith
 
 -- whatever holds of a look in every case of the rules
 pub by-rules : (R : Judged) (Q : State → Look → Type 0) →

@@ -2,6 +2,7 @@ pub mod ByRules
 pub mod Ending
 pub mod Examples
 pub mod First
+pub mod Keeping
 pub mod Laws
 pub mod Looks
 pub mod Marks

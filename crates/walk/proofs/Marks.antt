@@ -32,10 +32,8 @@ module _ (bytes : List ℕ) (p : ℕ) where
         (omega (arith, small (p + 1), small (p + 2), small (p + 3)))
 
     module _ (r : Bool) (one : getD bytes (p + 1) 0 ≡ 0x07 → getD bytes (p + 2) 0 ≡ 0x3A → r ≡ true) (other : getD bytes (p + 1) 0 ≡ 0xF8 → getD bytes (p + 2) 0 ≡ 0xC5 → r ≡ true) where
-      pub stands-marked : refusalOf (part bytes p) ≡ 0 → r ≡ true
-      stands-marked e =
-          let f = part bytes p in
-          begins _ _ _ r (small (p + 1), small (p + 2), small (p + 3)) one other (subst OneFsync fsync-is (acceptable f e .synced))
+      pub synced-marked : OneFsync (fsyncOf (part bytes p)) → r ≡ true
+      synced-marked e = begins _ _ _ r (small (p + 1), small (p + 2), small (p + 3)) one other (subst OneFsync fsync-is e)
 
       pub unmarked : r ≡ false → refusalOf (part bytes p) ≡ 0 → ⊥
-      unmarked m e = let z : _≡_ {A = ℕ} 0 1 = cc (stands-marked e) in omega arith
+      unmarked m e = let z : _≡_ {A = ℕ} 0 1 = cc (synced-marked (acceptable (part bytes p) e .synced)) in omega arith

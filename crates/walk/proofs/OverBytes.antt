@@ -3,29 +3,31 @@
 use Prim.Native.Nat.{ℕ, zero, suc, _+_, _-_, _*_, _≤_, _<_}
 use mathlib.Core.Path.{_≡_, refl, ap, ap₂, sym, subst, _∙_}
 use mathlib.Core.Bool.{Bool, true, false, not}
+use mathlib.Core.Logic.{inl, inr}
 use mathlib.Core.List.{List, [], _∷_, _++_, map, append-nil}
 use native.Mathlib.Omega.{arith}
 use lib.Dec.{lit<, eqb, leb}
 use lib.ListN.{length, replicate}
-use borrow.Author.Tests.{le-leb, eq-eqb, ne-eqb, eqb-true}
+use borrow.Author.Tests.{le-leb, eq-eqb, ne-eqb}
 use Rattle.frame.specs.declared.Header.{Header}
 use Rattle.octets.specs.Choice.{pick}
 use Rattle.frame.specs.Frame.{isFsync1}
-use Rattle.frame.specs.Rules.{refusalOf, Acceptable}
-use Rattle.frame.proofs.Accepting.{accepted, acceptable}
+use Rattle.frame.specs.Rules.{refusalOf, Acceptable, NullTransmission}
+use Rattle.frame.proofs.Accepting.{accepted, acceptable, null-transmission, refused-null}
 use Rattle.frame.specs.Answers.{headerFor}
-use Rattle.walk.specs.Walk.{Judged, Fair, State, Item, Frame, Lost, Done, frameAt, itemAt, keeps, items, rest, stepOf, calls, locked, begin}
+use Rattle.walk.specs.Walk.{Judged, Fair, State, Item, Frame, Lost, Idle, Done, frameAt, itemAt, items, rest, stepOf, calls, locked, begin}
 use Rattle.walk.specs.ItemValues.{placeOf}
 use Rattle.walk.specs.AnyJudging.{Ends, since, frames, periods, Unbroken}
 use Rattle.walk.specs.Records.{part, judged, tableOf, stepWith, stepAt, callsAt}
 use Rattle.walk.specs.Truth.{ItemTrue}
-use Rattle.walk.specs.Demand3.{EndsIn, UnbrokenIn, Out, outOf, frameOut, lostOut, doneOut, outSince, framesOut, periodOut, periodsOut}
+use Rattle.walk.specs.Demand3.{Keeping, EndsIn, UnbrokenIn, Out, outOf, frameOut, lostOut, idleOut, doneOut, outSince, framesOut, periodOut, periodsOut}
 use Rattle.walk.proofs.Looks.{rest-dead}
 use Rattle.walk.proofs.Laws.{no-room}
 use Rattle.walk.proofs.Ending.{items-bounded, calls-items, calls-first, calls-end, frame-followed}
 use Rattle.walk.proofs.First.{intact-handed-out}
 use Rattle.walk.proofs.Second.{each-period, length-periods}
 use Rattle.walk.proofs.Truth.{step-true}
+use Rattle.walk.proofs.Keeping.{keeping, kept}
 
 fair : (limit : ℕ) → 0 < limit → (bytes : List ℕ) → Fair (judged limit bytes)
 unfolding judged
@@ -42,7 +44,7 @@ unfolding judged headerFor isFsync1
 sync-given limit bytes p ok = rw (eq-eqb (length (part bytes p)) 6144 (ok .whole))
 
 ends : (limit : ℕ) (bytes : List ℕ) (a n : ℕ) → EndsIn bytes a n → Ends (judged limit bytes) a n
-unfolding judged keeps
+unfolding judged
 ends limit bytes a n E =
     record {
       whole = E .whole;
@@ -51,12 +53,12 @@ ends limit bytes a n E =
           sync-given limit bytes (a + suc i * 6144) (E .intact (suc i) h)
           ∙ E .alternating i h
           ∙ ap not (sym (sync-given limit bytes (a + i * 6144) (E .intact i (omega arith))));
-      alone = λ q z room e. E .alone q z room (acceptable (part bytes q) (eqb-true (refusalOf (part bytes q)) 0 e));
+      alone = λ q z room e. E .alone q z room (keeping limit bytes q e);
     }
 
 unbroken : (limit : ℕ) (bytes : List ℕ) (p n : ℕ) → UnbrokenIn limit bytes p n → Unbroken (judged limit bytes) p n
-unfolding UnbrokenIn Unbroken judged keeps
-unbroken limit bytes p n u i h = let (j, l, ok) = u i h in (j, l, acceptable-stands limit bytes (p + (i + j) * 6144) ok)
+unfolding UnbrokenIn Unbroken judged
+unbroken limit bytes p n u i h = let (j, l, ok) = u i h in (j, l, kept limit bytes (p + (i + j) * 6144) ok)
 
 -- ---- lists of items
 since-join : (c : ℕ) (xs ys : List Item) → since c (xs ++ ys) ≡ since c xs ++ since c ys
@@ -117,11 +119,12 @@ module _ (limit : ℕ) (bytes : List ℕ) where
 
   period-out : (p : ℕ) → with-table (itemAt (judged limit bytes) p) ≡ periodOut bytes p
   unfolding itemAt judged periodOut tableOf
-  period-out p = go (eqb (refusalOf (part bytes p)) 0)
+  period-out p = go (eqb (refusalOf (part bytes p)) 0) (eqb (refusalOf (part bytes p)) 4)
     where
-      go : (b : Bool) → with-table (pick b (frameAt (judged limit bytes) p) (Lost p (refusalOf (part bytes p)))) ≡ pick b (frameOut bytes p) (lostOut bytes p)
-      go true = refl
-      go false = refl
+      go : (a b : Bool) → with-table (pick a (frameAt (judged limit bytes) p) (pick b (Idle p) (Lost p (refusalOf (part bytes p))))) ≡ pick a (frameOut bytes p) (pick b (idleOut p) (lostOut bytes p))
+      go true b = refl
+      go false true = refl
+      go false false = refl
 
   periods-out : (n p k e : ℕ) → map with-table (periods (judged limit bytes) p n ++ replicate k (Done e)) ≡ periodsOut bytes p n ++ replicate k (doneOut e)
   unfolding periods periodsOut judged tableOf
@@ -181,14 +184,19 @@ pub demand-3-first : (bytes : List ℕ) (a n : ℕ) → EndsIn bytes a n → 4 �
 demand-3-first bytes a n E h = intact-out 3 (lit< tt) bytes a n E h
 
 -- ---- the second part
--- the period at p gives a frame exactly where it is acceptable
+-- the period at p gives a frame exactly where it is acceptable, and an idle item exactly where it is a null transmission
 pub period-accepted : (bytes : List ℕ) (p : ℕ) → Acceptable (part bytes p) → periodOut bytes p ≡ frameOut bytes p
 unfolding periodOut
 period-accepted bytes p ok = rw (eq-eqb (refusalOf (part bytes p)) 0 (accepted (part bytes p) ok))
 
-pub period-refused : (bytes : List ℕ) (p : ℕ) → (Acceptable (part bytes p) → ⊥) → periodOut bytes p ≡ lostOut bytes p
+pub period-null : (bytes : List ℕ) (p : ℕ) → NullTransmission (part bytes p) → periodOut bytes p ≡ idleOut p
 unfolding periodOut
-period-refused bytes p bad = rw (ne-eqb (refusalOf (part bytes p)) 0 (λ z. bad (acceptable (part bytes p) z)))
+period-null bytes p null = rw (refused-null (part bytes p) null)
+
+pub period-refused : (bytes : List ℕ) (p : ℕ) → (Keeping (part bytes p) → ⊥) → periodOut bytes p ≡ lostOut bytes p
+unfolding periodOut
+period-refused bytes p bad =
+    rw (ne-eqb (refusalOf (part bytes p)) 0 (λ z. bad (inl (acceptable (part bytes p) z))), ne-eqb (refusalOf (part bytes p)) 4 (λ z. bad (inr (null-transmission (part bytes p) z))))
 
 module _ (limit : ℕ) (patient : 0 < limit) (bytes : List ℕ) (s : State) (q : ℕ) (h : Header) (handed : stepAt limit bytes s .item ≡ Frame q h)
     (n : ℕ) (room : q + 6144 + n * 6144 ≤ length bytes) (u : UnbrokenIn limit bytes (q + 6144) n) where
@@ -229,8 +237,8 @@ module _ (limit : ℕ) (patient : 0 < limit) (bytes : List ℕ) (s : State) (q :
             ∙ periods-out limit bytes n (q + 6144) m (rest R (locked (q + 6144) 0) .place),
       )
 
--- DEMAND 3, SECOND PART: in lock, one item for each period until three in a row are refused (or the record ends).
--- After a call that hands out a frame at q, from any state, the next n calls hand out one item for each of the n periods that follow: the frame, with the header and table that reading gives there, if it is acceptable, and a lost mark with its refusal number if not.
+-- DEMAND 3, SECOND PART: in lock, one item for each period until three in a row are refused for any reason but 4 (or the record ends).
+-- After a call that hands out a frame at q, from any state, the next n calls hand out one item for each of the n periods that follow: the frame, with the header and table that reading gives there, if it is acceptable, an idle item if it is a null transmission, and a lost mark with its refusal number if it is neither.
 pub demand-3-second : (bytes : List ℕ) (s : State) (q : ℕ) (h : Header) → stepAt 3 bytes s .item ≡ Frame q h →
     (n : ℕ) → q + 6144 + n * 6144 ≤ length bytes → UnbrokenIn 3 bytes (q + 6144) n →
     map outOf (callsAt 3 bytes n (stepAt 3 bytes s .walk)) ≡ periodsOut bytes (q + 6144) n

@@ -4,6 +4,7 @@ use Prim.Native.Nat.{ℕ, zero, suc, _+_, _-_, _*_, _/_, _%_, _≤_, _<_}
 use mathlib.Core.Path.{_≡_, refl, sym, ap, subst, _∙_}
 use mathlib.Core.Bool.{Bool, true, false, not, _&&_, _||_}
 use mathlib.Core.List.{List, [], _∷_, _++_, map}
+use mathlib.Core.Logic.{inl, inr}
 use native.Mathlib.Omega.{arith}
 use lib.Dec.{lit<, eqb, ltb}
 use lib.ListN.{length, getD, replicate, length-append, length-replicate, List·getD-append}
@@ -13,14 +14,15 @@ use Rattle.sum.specs.Sum.{sumOf, bit}
 use Rattle.frame.specs.Frame.{errOf, fsyncOf, fctOf, ficfOf, nstOf, midOf, flOf, ficlBy, streamsTo, stlTotal, headerSumOf}
 use Rattle.frame.specs.Rules.{someStlAbove, refusalOf}
 use Rattle.frame.specs.Writing.{Bytes}
-use Rattle.frame.proofs.Accepting.{accepted, acceptable}
+use Rattle.frame.proofs.Places.{OneFsync}
+use Rattle.frame.proofs.Accepting.{acceptable}
 use Rattle.frame.specs.Answers.{headerFor}
 use Rattle.walk.specs.Walk.{begin}
 use Rattle.walk.specs.Records.{part, callsAt}
-use Rattle.walk.specs.Demand3.{EndsIn, outOf, outSince, framesOut, doneOut}
+use Rattle.walk.specs.Demand3.{Keeping, EndsIn, outOf, outSince, framesOut, doneOut}
 use Rattle.walk.proofs.ByRules.{and-left, and-right}
 use Rattle.walk.proofs.OverBytes.{demand-3-first}
-use Rattle.walk.proofs.Marks.{byte-is, stands-marked}
+use Rattle.walk.proofs.Marks.{byte-is, synced-marked}
 
 -- THE RECORD
 -- what follows the sync word: FCT 0, no FIC, no streams, mode I, FL 1; MNSC, the header sum; the sum of an empty main stream, Rfu; Rfa, no timestamp; the padding
@@ -164,8 +166,12 @@ module _ (junk : List ℕ) (d : Damaged junk) (b : Bool) (n : ℕ) where
         alternating = λ i h. rw (stands-there (suc i) h, stands-there i (omega arith), plain-word (nth (not b) i), plain-word (nth b i)) (turns b i);
         alone = λ q z room ok.
             let small = bytes-append junk (inTurn b n) (d .small) (inTurn-small b n) in
-            start-found q z room (stands-marked bytes q small (starts (getD bytes (q + 1) 0)) (λ x y. rw x) (λ x y. rw x) (accepted (part bytes q) ok));
+            start-found q z room (synced-marked bytes q small (starts (getD bytes (q + 1) 0)) (λ x y. rw x) (λ x y. rw x) (synced ok));
       }
+    where
+      synced : {f : List ℕ} → Keeping f → OneFsync (fsyncOf f)
+      synced (inl ok) = ok .synced
+      synced (inr ok) = ok .synced
 
   -- and so of four or more of these frames the third and every later one are handed out
   pub real-handed-out : 4 ≤ n → (calls : ℕ) → length (junk ++ inTurn b n) ≤ calls →

@@ -19,11 +19,11 @@ use Rattle.frame.specs.Answers.{Reads}
 use Rattle.reading.proofs.Answered.{got-header, got-table, got-refused, got-nonzero}
 use Rattle.walk.specs.declared.State.{State}
 use Rattle.walk.specs.declared.Step.{Step}
-use Rattle.walk.specs.Walk.{Item, Frame, Lost, Done, Stepped, differ, confirmed, itemAt, keeps, stepOf, hunting, locked}
+use Rattle.walk.specs.Walk.{Item, Frame, Lost, Idle, Done, Stepped, differ, confirmed, itemAt, keeps, stepOf, hunting, locked}
 use Rattle.walk.specs.Records.{part, judged, fsync1At, frameIn, tableOf, stepWith, stepAt}
 use Rattle.walk.specs.Truth.{Over}
 use Rattle.walk.specs.StepClauses.{NoneStands}
-use Rattle.walk.proofs.ByRules.{confirmed-stands, not-standing, unfollowed}
+use Rattle.walk.proofs.ByRules.{confirmed-stands, not-standing, unfollowed, stands-keeps, stands-item}
 use Rattle.walk.proofs.Laws.{step-short, step-spent, step-kept, step-missed, step-last, step-confirmed, step-passed}
 
 pub part-is : (bytes : List ℕ) (p : ℕ) → take (p + 6144 - p) (drop p bytes) ≡ part bytes p
@@ -39,6 +39,16 @@ as-hunting s e = λ i. record { place = s .place; misses = s .misses; lock = sym
 refused-stands : (limit : ℕ) (bytes : List ℕ) (p n : ℕ) → n ≡ refusalOf (part bytes p) → (n ≡ 0 → ⊥) → judged limit bytes .stands p ≡ false
 unfolding judged
 refused-stands limit bytes p n e z = ne-eqb (refusalOf (part bytes p)) 0 (λ q. z (e ∙ q))
+
+-- .. and is no null transmission: a lost mark, and the lock is not kept
+module _ (limit : ℕ) (bytes : List ℕ) (p n : ℕ) (e : n ≡ refusalOf (part bytes p)) (z : n ≡ 0 → ⊥) (c : n ≡ 4 → ⊥) where
+  refused-misses : keeps (judged limit bytes) p ≡ false
+  unfolding judged keeps
+  refused-misses = rw (ne-eqb (refusalOf (part bytes p)) 0 (λ q. z (e ∙ q)), ne-eqb (refusalOf (part bytes p)) 4 (λ q. c (e ∙ q)))
+
+  refused-lost : itemAt (judged limit bytes) p ≡ Lost p n
+  unfolding judged itemAt
+  refused-lost = rw (ne-eqb (refusalOf (part bytes p)) 0 (λ q. z (e ∙ q)), ne-eqb (refusalOf (part bytes p)) 4 (λ q. c (e ∙ q)), e)
 
 module _ (limit : ℕ) (bytes : List ℕ) where
   -- the step over a record, from the walk's step
@@ -60,23 +70,29 @@ module _ (limit : ℕ) (bytes : List ℕ) where
 
   module _ (p k : ℕ) where
     module _ (room : p + 6144 ≤ length bytes) where
+      -- from the item and the walk of the walk's own step
+      to : (x : Item) (t : State) → stepOf (judged limit bytes) (locked p k) ≡ record { item = itemAt (judged limit bytes) p; walk = t } → itemAt (judged limit bytes) p ≡ x → (w : State) → w ≡ t → stepWith bytes x w ≡ stepAt limit bytes (locked p k)
+      to x t e i w q = ap (stepWith bytes x) q ∙ as-step (locked p k) x t (e ∙ ap (λ (y : Item). record { item = y; walk = t }) i)
+
       pub lock-stands : k < limit → refusalOf (part bytes p) ≡ 0 → stepWith bytes (frameIn bytes p) (locked (p + 6144) 0) ≡ stepAt limit bytes (locked p k)
-      unfolding judged itemAt keeps
+      unfolding judged
       lock-stands h e =
-          let y = eq-eqb (refusalOf (part bytes p)) 0 e in
-          as-step (locked p k) (frameIn bytes p) (locked (p + 6144) 0) (step-kept (judged limit bytes) (lit< tt) p k room h y ∙ (rw y))
+          let y : judged limit bytes .stands p ≡ true = eq-eqb (refusalOf (part bytes p)) 0 e in
+          to (frameIn bytes p) (locked (p + 6144) 0) (step-kept (judged limit bytes) (lit< tt) p k room h (stands-keeps (judged limit bytes) p y)) (stands-item (judged limit bytes) p y) _ refl
 
-      pub lock-missed : k + 1 < limit → (n : ℕ) → n ≡ refusalOf (part bytes p) → (n ≡ 0 → ⊥) → (w : State) → w ≡ locked (p + 6144) (k + 1) → stepWith bytes (Lost p n) w ≡ stepAt limit bytes (locked p k)
+      pub lock-null : k < limit → refusalOf (part bytes p) ≡ 4 → (w : State) → w ≡ locked (p + 6144) 0 → stepWith bytes (Idle p) w ≡ stepAt limit bytes (locked p k)
       unfolding judged itemAt keeps
-      lock-missed h n e z w q =
-          let y = refused-stands limit bytes p n e z in
-          ap (stepWith bytes (Lost p n)) q ∙ as-step (locked p k) (Lost p n) (locked (p + 6144) (k + 1)) (step-missed (judged limit bytes) (lit< tt) p k room h y ∙ (rw (y, e)))
+      lock-null h e w q =
+          to (Idle p) (locked (p + 6144) 0) (step-kept (judged limit bytes) (lit< tt) p k room h (rw e)) (rw e) w q
 
-      pub lock-last : k + 1 ≡ limit → (n : ℕ) → n ≡ refusalOf (part bytes p) → (n ≡ 0 → ⊥) → (w : State) → w ≡ hunting (p + 1) (k + 1) → stepWith bytes (Lost p n) w ≡ stepAt limit bytes (locked p k)
-      unfolding judged itemAt keeps
-      lock-last h n e z w q =
-          let y = refused-stands limit bytes p n e z in
-          ap (stepWith bytes (Lost p n)) q ∙ as-step (locked p k) (Lost p n) (hunting (p + 1) (k + 1)) (step-last (judged limit bytes) (lit< tt) p k room h y ∙ (rw (y, e)))
+      module _ (n : ℕ) (e : n ≡ refusalOf (part bytes p)) (z : n ≡ 0 → ⊥) (c : n ≡ 4 → ⊥) where
+        pub lock-missed : k + 1 < limit → (w : State) → w ≡ locked (p + 6144) (k + 1) → stepWith bytes (Lost p n) w ≡ stepAt limit bytes (locked p k)
+        unfolding judged
+        lock-missed h = to (Lost p n) (locked (p + 6144) (k + 1)) (step-missed (judged limit bytes) (lit< tt) p k room h (refused-misses limit bytes p n e z c)) (refused-lost limit bytes p n e z c)
+
+        pub lock-last : k + 1 ≡ limit → (w : State) → w ≡ hunting (p + 1) (k + 1) → stepWith bytes (Lost p n) w ≡ stepAt limit bytes (locked p k)
+        unfolding judged
+        lock-last h = to (Lost p n) (hunting (p + 1) (k + 1)) (step-last (judged limit bytes) (lit< tt) p k room h (refused-misses limit bytes p n e z c)) (refused-lost limit bytes p n e z c)
 
       pub hunt-confirmed : confirmed (judged limit bytes) p ≡ true → stepWith bytes (frameIn bytes p) (locked (p + 6144) 0) ≡ stepAt limit bytes (hunting p k)
       unfolding judged

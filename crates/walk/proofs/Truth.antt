@@ -1,4 +1,4 @@
--- What a step from any state says is true of the record: frames stand where they are said to, lost marks are refused with their number, and done is said where the walk can go no further.
+-- What a step from any state says is true of the record: frames stand where they are said to, idle items are null transmissions, lost marks are refused with their number, and done is said where the walk can go no further.
 -- Assumes nothing.
 use mathlib.Core.Bool.{Bool, true, false, not, _&&_}
 use mathlib.Core.List.{List, [], _∷_}
@@ -10,17 +10,16 @@ use lib.Dec.{lit<, leb}
 use borrow.Author.Tests.{leb-true, leb-false, eqb-true, eqb-false}
 use Rattle.frame.specs.declared.Answer.the-variants.{Accepted}
 use Rattle.frame.specs.declared.Header.{Header}
-use Rattle.octets.specs.Choice.{pick}
 use Rattle.frame.specs.Rules.{refusalOf}
 use Rattle.frame.specs.Answers.{headerValues, fieldsOf}
-use Rattle.frame.proofs.Accepting.{acceptable}
+use Rattle.frame.proofs.Accepting.{acceptable, null-transmission}
 use Rattle.frame.proofs.Fixed.{answer-fixed}
 use Rattle.frame.proofs.Headers.{header-values}
-use Rattle.walk.specs.Walk.{Judged, State, Item, Frame, Lost, Done, Look, Stepped, frameAt, itemAt, keeps, live, look, locked, hunting, stepBy, stepOf}
-use Rattle.walk.specs.ItemValues.{frameKind, lostKind, doneKind, itemValues}
+use Rattle.walk.specs.Walk.{Judged, State, Item, Frame, Lost, Idle, Done, Look, Stepped, itemAt, keeps, live, look, locked, hunting, stepBy, stepOf}
+use Rattle.walk.specs.ItemValues.{frameKind, lostKind, idleKind, doneKind, kindOf, itemValues}
 use Rattle.walk.specs.Records.{part, judged, stepWith, stepAt}
 use Rattle.walk.specs.Truth.{Over, ItemTrue, StepTrue}
-use Rattle.walk.proofs.ByRules.{live-fits, by-rules, confirmed-stands, stands-keeps}
+use Rattle.walk.proofs.ByRules.{live-fits, by-item, by-rules, confirmed-stands}
 use Rattle.walk.proofs.Looks.{step-dead, step-live, walk-ind}
 use Rattle.walk.proofs.Stepping.{over-done}
 
@@ -43,21 +42,18 @@ module _ (R : Judged) (positive : 0 < R .period) where
   -- the item and the walk that a step from s hands back
   abbrev Holds : State → Item → State → Type 0
   Holds s (Frame p h) t = (p + R .period ≤ R .len) × (R .stands p ≡ true) × (h ≡ R .header p) × (t ≡ locked (p + R .period) 0)
-  Holds s (Lost p n) t = (p + R .period ≤ R .len) × (R .stands p ≡ false) × (n ≡ R .number p)
+  Holds s (Lost p n) t = (p + R .period ≤ R .len) × (R .stands p ≡ false) × (R .null p ≡ false) × (n ≡ R .number p)
+  Holds s (Idle p) t = (p + R .period ≤ R .len) × (R .null p ≡ true) × (t ≡ locked (p + R .period) 0)
   Holds s (Done p) t = (t .place ≡ p) × (live R t ≡ false) × ((t ≡ s) ⊎ (p + R .period ≡ suc (R .len)))
 
   in-lock : (s : State) (p : ℕ) (t : State) → p + R .period ≤ R .len → (keeps R p ≡ true → t ≡ locked (p + R .period) 0) → Holds s (itemAt R p) t
-  unfolding itemAt
-  in-lock s p t room f = go (R .stands p) refl
-    where
-      go : (b : Bool) → R .stands p ≡ b → Holds s (pick b (frameAt R p) (Lost p (R .number p))) t
-      go true e = (room, e, refl, f (stands-keeps R p e))
-      go false e = (room, e, refl)
+  in-lock s p t room = by-item R p (λ x b. (b ≡ true → t ≡ locked (p + R .period) 0) → Holds s x t) (λ e f. (room, e, refl, f refl)) (λ e f. (room, e, f refl)) (λ e d f. (room, e, d, refl))
 
   -- hunting on to a place from which no period exists
   hunted : (p k : ℕ) → p + R .period ≤ R .len → (x : Item) (t : State) → Holds (hunting (p + 1) k) x t → Holds (hunting p k) x t
   hunted p k room (Frame q h) t a = a
   hunted p k room (Lost q n) t a = a
+  hunted p k room (Idle q) t a = a
   hunted p k room (Done q) t (e, d, f) = (e, d, inr (go f (over t d)))
     where
       go : (t ≡ hunting (p + 1) k) ⊎ (q + R .period ≡ suc (R .len)) → (R .len < t .place + R .period) ⊎ ((t .lock ≡ true) × (R .limit ≤ t .misses)) → q + R .period ≡ suc (R .len)
@@ -96,7 +92,9 @@ module _ (limit : ℕ) (bytes : List ℕ) where
     where
       go : (x : Item) (t : State) → Holds (judged limit bytes) (lit< tt) s x t → ItemTrue limit bytes s x t
       go (Frame p h) t (room, e, q, l) = record { fits = room; acceptable = acceptable (part bytes p) (eqb-true (refusalOf (part bytes p)) 0 e); header = q; onward = l }
-      go (Lost p n) t (room, e, q) = record { fits = room; number = q; refused = λ z. eqb-false (refusalOf (part bytes p)) 0 e (sym q ∙ z) }
+      go (Lost p n) t (room, e, d, q) =
+          record { fits = room; number = q; refused = λ z. eqb-false (refusalOf (part bytes p)) 0 e (sym q ∙ z); carrying = λ z. eqb-false (refusalOf (part bytes p)) 4 d (sym q ∙ z) }
+      go (Idle p) t (room, e, l) = record { fits = room; null = null-transmission (part bytes p) (eqb-true (refusalOf (part bytes p)) 4 e); onward = l }
       go (Done p) t (q, e, f) = record { place = q; over = over (judged limit bytes) (lit< tt) t e; first = ⊎-elim inl (λ w. inr (omega arith)) f }
 
   -- and where the walk can go no further it says done, at its place, and stays as it is
@@ -117,14 +115,19 @@ module _ (limit : ℕ) (bytes : List ℕ) where
         let t = subst (λ (x : Item). ItemTrue limit bytes s x (stepAt limit bytes s .walk)) e (step-true s) in
         ap (λ (v : ℕ). lostKind ∷ p ∷ v ∷ []) (t .number)
 
+    pub idle-values : (p : ℕ) → stepAt limit bytes s .item ≡ Idle p → itemValues (Idle p) ≡ idleKind ∷ p ∷ 4 ∷ []
+    unfolding itemValues
+    idle-values p e = refl
+
     pub done-values : (p : ℕ) → stepAt limit bytes s .item ≡ Done p → itemValues (Done p) ≡ doneKind ∷ p ∷ []
     unfolding itemValues
     done-values p e = refl
 
 -- KIND, PLACE AND VALUES FIX AN ITEM
--- two lists that begin with different kinds are different
-clash : {xs ys : List ℕ} (a b : ℕ) → a ∷ xs ≡ b ∷ ys → (a ≡ b → ⊥) → ⊥
-clash a b e h = let z : a ≡ b = cc in h z
+-- items of different kinds have different values
+clash : (x y : Item) → itemValues x ≡ itemValues y → (kindOf x ≡ kindOf y → ⊥) → ⊥
+unfolding itemValues
+clash x y e h = let z : kindOf x ≡ kindOf y = cc in h z
 
 pub item-fixed : (x y : Item) → itemValues x ≡ itemValues y → x ≡ y
 unfolding itemValues
@@ -134,11 +137,18 @@ item-fixed (Frame p h) (Frame q k) e =
     let b = answer-fixed (Accepted h) (Accepted k) refl v in
     let c : h ≡ k = cc in
     λ i. Frame (a i) (c i)
-item-fixed (Frame p h) (Lost q n) e = absurd (clash frameKind lostKind e (λ z. omega arith))
-item-fixed (Frame p h) (Done q) e = absurd (clash frameKind doneKind e (λ z. omega arith))
-item-fixed (Lost p m) (Frame q k) e = absurd (clash lostKind frameKind e (λ z. omega arith))
 item-fixed (Lost p m) (Lost q n) e = cc
-item-fixed (Lost p m) (Done q) e = absurd (clash lostKind doneKind e (λ z. omega arith))
-item-fixed (Done p) (Frame q k) e = absurd (clash doneKind frameKind e (λ z. omega arith))
-item-fixed (Done p) (Lost q n) e = absurd (clash doneKind lostKind e (λ z. omega arith))
+item-fixed (Idle p) (Idle q) e = cc
 item-fixed (Done p) (Done q) e = cc
+item-fixed (Frame p h) (Lost q n) e = absurd (clash (Frame p h) (Lost q n) e (λ z. omega arith))
+item-fixed (Frame p h) (Idle q) e = absurd (clash (Frame p h) (Idle q) e (λ z. omega arith))
+item-fixed (Frame p h) (Done q) e = absurd (clash (Frame p h) (Done q) e (λ z. omega arith))
+item-fixed (Lost p m) (Frame q k) e = absurd (clash (Lost p m) (Frame q k) e (λ z. omega arith))
+item-fixed (Lost p m) (Idle q) e = absurd (clash (Lost p m) (Idle q) e (λ z. omega arith))
+item-fixed (Lost p m) (Done q) e = absurd (clash (Lost p m) (Done q) e (λ z. omega arith))
+item-fixed (Idle p) (Frame q k) e = absurd (clash (Idle p) (Frame q k) e (λ z. omega arith))
+item-fixed (Idle p) (Lost q n) e = absurd (clash (Idle p) (Lost q n) e (λ z. omega arith))
+item-fixed (Idle p) (Done q) e = absurd (clash (Idle p) (Done q) e (λ z. omega arith))
+item-fixed (Done p) (Frame q k) e = absurd (clash (Done p) (Frame q k) e (λ z. omega arith))
+item-fixed (Done p) (Lost q n) e = absurd (clash (Done p) (Lost q n) e (λ z. omega arith))
+item-fixed (Done p) (Idle q) e = absurd (clash (Done p) (Idle q) e (λ z. omega arith))

@@ -10,7 +10,7 @@ use Rattle.frame.specs.Frame.{isFsync1, streamsOf}
 use Rattle.frame.specs.Rules.{refusalOf}
 use Rattle.frame.specs.Answers.{tableBy, headerFor}
 use Rattle.walk.specs.declared.Item.{Item}
-use Rattle.walk.specs.declared.Item.the-variants.{Frame, Lost, Done}
+use Rattle.walk.specs.declared.Item.the-variants.{Frame, Lost, Idle, Done}
 use Rattle.walk.specs.declared.State.{State}
 use Rattle.walk.specs.declared.Step.{Step}
 use Rattle.walk.specs.Walk.{Judged, stepOf}
@@ -23,7 +23,7 @@ part bytes p = take 6144 (drop p bytes)
 abbrev pub fsync1At : List ℕ → ℕ → Bool
 fsync1At bytes p = isFsync1 (part bytes p)
 
--- a place stands if the 6,144 bytes from it are accepted by the reading; its header and refusal number are the reading's
+-- a place stands if the 6,144 bytes from it are accepted by the reading, and is a null transmission if they are refused with 4; its header and refusal number are the reading's
 unfoldable pub judged : ℕ → List ℕ → Judged
 judged limit bytes =
     record {
@@ -31,6 +31,7 @@ judged limit bytes =
       period = 6144;
       limit = limit;
       stands = λ p. eqb (refusalOf (part bytes p)) 0;
+      null = λ p. eqb (refusalOf (part bytes p)) 4;
       sync = fsync1At bytes;
       header = λ p. headerFor (part bytes p);
       number = λ p. refusalOf (part bytes p);
@@ -44,6 +45,7 @@ frameIn bytes p = Frame p (headerFor (part bytes p))
 unfoldable pub tableOf : List ℕ → Item → List Stream
 tableOf bytes (Frame p h) = tableBy (streamsOf (part bytes p))
 tableOf bytes (Lost p n) = tableBy []
+tableOf bytes (Idle p) = tableBy []
 tableOf bytes (Done p) = tableBy []
 
 -- what a step hands back: the item, its table, the advanced walk
@@ -58,3 +60,8 @@ stepAt limit bytes s = stepWith bytes (stepOf (judged limit bytes) s .item) (ste
 unfoldable pub callsAt : ℕ → List ℕ → ℕ → State → List Step
 callsAt limit bytes zero s = []
 callsAt limit bytes (suc n) s = stepAt limit bytes s ∷ callsAt limit bytes n (stepAt limit bytes s .walk)
+
+-- the state that n calls, one after another, leave
+unfoldable pub stateAfter : ℕ → List ℕ → ℕ → State → State
+stateAfter limit bytes zero s = s
+stateAfter limit bytes (suc n) s = stateAfter limit bytes n (stepAt limit bytes s .walk)

@@ -13,9 +13,10 @@ pub record NoneStands (bytes : List ℕ) (a b : ℕ) : Type 0 where
   pub room : (p : ℕ) → a ≤ p → p < b → p + 6144 ≤ length bytes
   pub refused : (p : ℕ) → a ≤ p → p < b → refusalOf (part bytes p) ≡ 0 → ⊥
 
--- in lock at p after k misses, with fewer than the limit, the place is refused with n
+-- in lock at p after k misses, with fewer than the limit, the place is refused with n, and is no null transmission
 pub record Missed (limit : ℕ) (bytes : List ℕ) (p k n : ℕ) : Type 0 where
   pub room : p + 6144 ≤ length bytes
   pub few : k < limit
   pub number : n ≡ refusalOf (part bytes p)
   pub refused : n ≡ 0 → ⊥
+  pub carrying : n ≡ 4 → ⊥

@@ -1,22 +1,23 @@
 -- The walk over a record, defined over any judging of its places. Nothing here says how a frame is read.
 -- Assumes nothing.
 use Prim.Native.Nat.{ℕ, zero, suc, _+_, _-_, _<_}
-use mathlib.Core.Bool.{Bool, true, false, not, _&&_}
+use mathlib.Core.Bool.{Bool, true, false, not, _&&_, _||_}
 use mathlib.Core.List.{List, [], _∷_}
 use mathlib.Core.Option.{Option, none, some}
 use lib.Dec.{leb, ltb}
 use Rattle.octets.specs.Choice.{pick}
 use Rattle.frame.specs.declared.Header.{Header}
 pub use Rattle.walk.specs.declared.Item.{Item}
-pub use Rattle.walk.specs.declared.Item.the-variants.{Frame, Lost, Done}
+pub use Rattle.walk.specs.declared.Item.the-variants.{Frame, Lost, Idle, Done}
 pub use Rattle.walk.specs.declared.State.{State}
 
--- What the walk goes by: whether a place stands, its sync word, the header that its reading gives, its refusal number. They are asked only of places whose `period` bytes exist.
+-- What the walk goes by: whether a place stands, whether it reads as a null transmission, its sync word, the header that its reading gives, its refusal number. They are asked only of places whose `period` bytes exist.
 pub record Judged : Type 0 where
   pub len : ℕ
   pub period : ℕ
   pub limit : ℕ
   pub stands : ℕ → Bool
+  pub null : ℕ → Bool
   pub sync : ℕ → Bool
   pub header : ℕ → Header
   pub number : ℕ → ℕ
@@ -69,11 +70,11 @@ frameAt R p = Frame p (R .header p)
 
 -- what a place gives the walk in lock
 unfoldable pub itemAt : Judged → ℕ → Item
-itemAt R p = pick (R .stands p) (frameAt R p) (Lost p (R .number p))
+itemAt R p = pick (R .stands p) (frameAt R p) (pick (R .null p) (Idle p) (Lost p (R .number p)))
 
 -- whether it keeps the lock, so that the misses are cleared
 unfoldable pub keeps : Judged → ℕ → Bool
-keeps R p = R .stands p
+keeps R p = R .stands p || R .null p
 
 -- in lock at p, after k misses
 unfoldable pub lookLocked : Judged → ℕ → ℕ → Look

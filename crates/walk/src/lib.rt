@@ -6,7 +6,7 @@ ghost use Prim.Native.Nat.{ℕ, _+_, _≤_};
 ghost use lib.ListN.{length};
 ghost use Rattle.frame.specs.Rules.{refusalOf};
 ghost use Rattle.frame.specs.Answers.{Reads};
-ghost use Rattle.walk.specs.Walk.{Lost, Done, confirmed, locked, hunting};
+ghost use Rattle.walk.specs.Walk.{Lost, Idle, Done, confirmed, locked, hunting};
 ghost use Rattle.walk.specs.Records.{part, judged, fsync1At, frameIn, stepWith, stepAt};
 ghost use Rattle.walk.specs.StepClauses.{NoneStands, Missed};
 use frame::Answer;
@@ -21,10 +21,11 @@ pub struct State {
     pub lock: bool,
 }
 
-// What a step hands out: a frame's place and header, a lost mark's place and refusal number, or done, with the place.
+// What a step hands out: a frame's place and header, a lost mark's place and refusal number, the place of a null transmission in lock, or done, with the place.
 pub enum Item {
     Frame(usize, Header),
     Lost(usize, u8),
+    Idle(usize),
     Done(usize),
 }
 
@@ -129,6 +130,17 @@ fn lost_step(p: usize, n: u8, walk: State) -> Step
 {
     Step {
         item: Item::Lost(p, n),
+        table: reading::no_streams(),
+        walk,
+    }
+}
+
+// An idle item at p, and the walk that goes on.
+fn idle_step(p: usize, walk: State) -> Step
+    ensures { λ r. ⌜ ((bytes : List ℕ) → r ≡ stepWith bytes (Idle p) walk) ⌝ }
+{
+    Step {
+        item: Item::Idle(p),
         table: reading::no_streams(),
         walk,
     }
@@ -250,11 +262,14 @@ fn in_lock(bytes: &[u8], limit: usize, p: usize, misses: usize) -> Step
     if refusal == 0 {
         return frame_step(bytes, p);
     }
+    if refusal == 4 {
+        return idle_step(p, lock_at(p + 6144, 0));
+    }
     missed(bytes, limit, p, misses, refusal)
 }
 
 impl State {
-    // To the next frame or lost mark of the record; done, at its place, where there is none. Any state is taken.
+    // To the next frame, lost mark or idle item of the record; done, at its place, where there is none. Any state is taken.
     pub fn step(self, bytes: &[u8]) -> Step
         ensures { λ r. ⌜ r ≡ stepAt 3 (now (bytes .entry)) self ⌝ }
     {

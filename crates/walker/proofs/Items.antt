@@ -11,12 +11,12 @@ use Rattle.walk.specs.declared.Item.the-variants.{Done}
 use Rattle.walk.specs.declared.State.{State}
 use Rattle.walk.specs.Walk.{Stepped, begin, items, rest, stepOf, calls}
 use Rattle.walk.specs.declared.Step.{Step}
-use Rattle.walk.specs.Records.{judged, stepWith, stepAt}
+use Rattle.walk.specs.Records.{judged, stepWith, stepAt, stateAfter}
 use Rattle.walk.proofs.Ending.{done-stays, calls-items}
-use Rattle.walker.specs.Advance.{stateAfter, nthOf, itemOf}
+use Rattle.walker.specs.Advance.{nthOf, itemOf}
 
 -- of any more than n calls, the n-th
-called : (bytes : List ℕ) (n m : ℕ) (s : State) (d : Item) → n < m → stepAt 3 bytes (stateAfter bytes n s) .item ≡ getD (calls (judged 3 bytes) m s) n d
+called : (bytes : List ℕ) (n m : ℕ) (s : State) (d : Item) → n < m → stepAt 3 bytes (stateAfter 3 bytes n s) .item ≡ getD (calls (judged 3 bytes) m s) n d
 unfolding calls stateAfter stepAt stepWith
 called bytes n zero s d h = absurd (omega (arith, h))
 called bytes zero (suc m) s d h = refl
@@ -45,7 +45,7 @@ said-again bytes s p e =
     ap (λ (x : Stepped). stepWith bytes (x .item) (x .walk)) (done-stays (judged 3 bytes) (lit< tt) s p e .1)
     ∙ ap (λ (x : Item). stepWith bytes x (stepOf (judged 3 bytes) s .walk)) (sym e)
 
-pub done-on : (bytes : List ℕ) (m : ℕ) (s : State) (p : ℕ) → stepAt 3 bytes s .item ≡ Done p → stepAt 3 bytes (stateAfter bytes m s) ≡ stepAt 3 bytes s
+pub done-on : (bytes : List ℕ) (m : ℕ) (s : State) (p : ℕ) → stepAt 3 bytes s .item ≡ Done p → stepAt 3 bytes (stateAfter 3 bytes m s) ≡ stepAt 3 bytes s
 unfolding stateAfter
 done-on bytes zero s p e = refl
 done-on bytes (suc m) s p e =

@@ -1,7 +1,7 @@
 -- The walk that holds its record: at its beginning, after a step, and what its n-th step hands back.
 -- Assumes nothing.
 use mathlib.Core.List.{List}
-use Prim.Native.Nat.{ℕ, zero, suc}
+use Prim.Native.Nat.{ℕ}
 use denote.Ref.{RefT, now}
 use lib.Dec.{leb}
 use lib.ListN.{length, getD}
@@ -9,11 +9,10 @@ use Rattle.frame.specs.declared.Span.{Span}
 use Rattle.octets.specs.Choice.{pick}
 use Rattle.frame.specs.Answers.{PartAt}
 use Rattle.walk.specs.declared.Item.{Item}
-use Rattle.walk.specs.declared.Item.the-variants.{Frame, Lost, Done}
-use Rattle.walk.specs.declared.State.{State}
+use Rattle.walk.specs.declared.Item.the-variants.{Frame, Lost, Idle, Done}
 use Rattle.walk.specs.declared.Step.{Step}
 use Rattle.walk.specs.Walk.{begin, items, rest}
-use Rattle.walk.specs.Records.{judged, stepAt}
+use Rattle.walk.specs.Records.{judged, stepAt, stateAfter}
 use Rattle.walker.specs.declared.Walk.{Walk}
 use Rattle.walker.specs.declared.Advanced.{Advanced}
 
@@ -29,6 +28,7 @@ periodPart bytes p = pick (leb p (length bytes)) (record { start = p; len = 6144
 unfoldable pub framePart : List ℕ → Item → Span
 framePart bytes (Frame p h) = periodPart bytes p
 framePart bytes (Lost p n) = noPart
+framePart bytes (Idle p) = noPart
 framePart bytes (Done p) = noPart
 
 -- r is the item's frame, as a part of the record s itself: its bytes, and its place in memory
@@ -47,14 +47,9 @@ found w = stepAt 3 (now (w .«record»)) (w .state)
 abbrev pub advanced : Walk → RefT (List ℕ) → Advanced
 advanced w f = record { item = found w .item; table = found w .table; frame = f; walk = record { «record» = w .«record»; state = found w .walk } }
 
--- the state n steps on
-unfoldable pub stateAfter : List ℕ → ℕ → State → State
-stateAfter bytes zero s = s
-stateAfter bytes (suc n) s = stateAfter bytes n (stepAt 3 bytes s .walk)
-
 -- what the step after n steps hands back
 abbrev pub nthOf : List ℕ → ℕ → Step
-nthOf bytes n = stepAt 3 bytes (stateAfter bytes n begin)
+nthOf bytes n = stepAt 3 bytes (stateAfter 3 bytes n begin)
 
 -- the n-th of the items that the record's walk hands out; after the last of them done, where the walk rests
 abbrev pub itemOf : List ℕ → ℕ → Item

@@ -44,6 +44,7 @@ pub fn frame_of(record: &[u8], item: Item) -> &[u8]
     match item {
         Item::Frame(p, _) => part_at(record, p),
         Item::Lost(_, _) => &record[0..0],
+        Item::Idle(_) => &record[0..0],
         Item::Done(_) => &record[0..0],
     }
 }
@@ -57,7 +58,7 @@ pub fn begin<'a>(record: &'a [u8]) -> Walk<'a>
 }
 
 impl<'a> Walk<'a> {
-    // To the next frame or lost mark of the record; done, at its place, where there is none.
+    // To the next frame, lost mark or idle item of the record; done, at its place, where there is none.
     pub fn step(self) -> Advanced<'a>
         ensures { λ r. ⌜ (r ≡ advanced (self .entry) (r .frame)) × FrameAt (self .entry .«record») (r .item) (r .frame) ⌝ }
     {
@@ -82,6 +83,7 @@ fn ends(left: usize, item: Item) -> bool
     match item {
         Item::Frame(_, _) => left == 0,
         Item::Lost(_, _) => left == 0,
+        Item::Idle(_) => left == 0,
         Item::Done(_) => true,
     }
 }

@@ -15,6 +15,10 @@ returns-3 : tie.Need-returns-3
 unfolding itemBytes
 returns-3 c = rw (c .before .before .before .before .before .item3 .given .1) (c .before .before .put-ten3 .ensures)
 
+returns-4 : tie.Need-returns-4
+unfolding itemBytes
+returns-4 c = rw (c .before .before .before .before .before .item4 .given .1) (c .before .before .put-ten4 .ensures)
+
 pub put-item-spec : {M : Type 1} → statement M
 put-item-spec =
     tie.close
@@ -26,8 +30,12 @@ put-item-spec =
     (λ c. search needs)
     (λ c κs. search needs)
     (λ c. search needs)
+    (λ c κs. search needs)
+    (λ c. search needs)
     returns
     (λ c. search needs)
     returns-2
     (λ c. search needs)
-    returns-3)
+    returns-3
+    (λ c. search needs)
+    returns-4)

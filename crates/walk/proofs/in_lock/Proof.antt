@@ -1,7 +1,7 @@
 use mathlib.Core.Path.{refl, sym, _∙_}
 use native.Mathlib.Omega.{arith}
 use mathlib.Core.Logic.{inl, inr}
-use Rattle.walk.proofs.Stepping.{over-done, lock-stands}
+use Rattle.walk.proofs.Stepping.{over-done, lock-stands, lock-null}
 use borrow.Author.Needs.{needs}
 use Rattle.walk.proofs.in_lock.Statement.{statement}
 use Rattle.walk.proofs.in_lock.Tie as tie
@@ -20,6 +20,12 @@ returns-4 c =
     let start = c .before .before .before .before .before .before .before .before in
     c .frame-step .ensures ∙ lock-stands _ (start .args .bytes .now) _ _ (omega arith) (omega arith) (sym (c .before .before .judge-at .ensures) ∙ c .before .if4 .taken)
 
+returns-5 : tie.Need-returns-5
+returns-5 c =
+    let start = c .before .before .before .before .before .before .before .before .before .before in
+    c .idle-step .ensures (start .args .bytes .now)
+    ∙ lock-null _ (start .args .bytes .now) _ _ (omega arith) (omega arith) (sym (c .before .before .before .before .judge-at .ensures) ∙ c .before .before .if5 .taken) _ (c .before .lock-at2 .ensures)
+
 pub in-lock-spec : {M : Type 1} → statement M
 in-lock-spec =
     tie.close
@@ -34,5 +40,9 @@ in-lock-spec =
     (λ c κs. search needs)
     (λ c κs. search needs)
     returns-4
+    (λ c. search needs)
+    (λ c κs. search needs)
+    (λ c κs. search needs)
+    returns-5
     (λ c κs. search needs)
     (λ c. search needs))

@@ -9,13 +9,13 @@ returns : tie.Need-returns
 returns c =
     let start = c .before .before .before .before in
     c .lost-step .ensures (start .args .bytes .now)
-    ∙ lock-missed _ _ _ _ (start .pre .room) (omega arith) _ (start .pre .number) (start .pre .refused) _ (c .before .lock-at .ensures)
+    ∙ lock-missed _ _ _ _ (start .pre .room) _ (start .pre .number) (start .pre .refused) (start .pre .carrying) (omega arith) _ (c .before .lock-at .ensures)
 
 returns-2 : tie.Need-returns-2
 returns-2 c =
     let start = c .before .before .before .before in
     c .lost-step2 .ensures (start .args .bytes .now)
-    ∙ lock-last _ _ _ _ (start .pre .room) (omega arith) _ (start .pre .number) (start .pre .refused) _ (c .before .hunt-at .ensures)
+    ∙ lock-last _ _ _ _ (start .pre .room) _ (start .pre .number) (start .pre .refused) (start .pre .carrying) (omega arith) _ (c .before .hunt-at .ensures)
 
 pub missed-spec : {M : Type 1} → statement M
 missed-spec =

@@ -18,7 +18,11 @@ returns-3 : tie.Need-returns-3
 unfolding framePart
 returns-3 c = rw (c .before .enum-told2 .given .1) (record { bytes = refl; place = refl })
 
+returns-4 : tie.Need-returns-4
+unfolding framePart
+returns-4 c = rw (c .before .enum-told3 .given .1) (record { bytes = refl; place = refl })
+
 pub frame-of-spec : {M : Type 1} → statement M
 frame-of-spec =
     tie.close
-    (tie.spec (λ c. search needs) (λ c κs. search needs) (λ c. search needs) (λ c. search needs) (λ c. search needs) (λ c. search needs) (λ c. search needs) (λ c. search needs) (λ c. search needs) (λ c. search needs) returns returns-2 returns-3)
+    (tie.spec (λ c. search needs) (λ c κs. search needs) (λ c. search needs) (λ c. search needs) (λ c. search needs) (λ c. search needs) (λ c. search needs) (λ c. search needs) (λ c. search needs) (λ c. search needs) (λ c. search needs) (λ c. search needs) (λ c. search needs) (λ c. search needs) returns returns-2 returns-3 returns-4)

@@ -46,18 +46,18 @@ use denote.Exit.{yes}
 use denote.Triple.Clauses.{ensured, lasts}
 use Rattle.frame.proofs.Stream.Laws as Sm′
 use Rattle.walk.specs.declared.Item as It
-use Rattle.walk.specs.declared.Item.the-variants.{Frame, Lost, Done}
+use Rattle.walk.specs.declared.Item.the-variants.{Frame, Lost, Idle, Done}
 use Rattle.walk.specs.declared.State.{State}
 use Rattle.walk.specs.declared.Step.{Step}
 use Rattle.walk.specs.Walk.{hunting}
-use Rattle.walk.specs.Records.{stepAt}
+use Rattle.walk.specs.Records.{stepAt, stateAfter}
 use Rattle.walk.proofs.State as St
 use Rattle.walk.proofs.State.Laws as St′
 use Rattle.walk.proofs.Step as S
 use Rattle.walk.proofs.Step.Laws as S′
 use Rattle.walk.proofs.Item as I
 use Rattle.walk.proofs.Item.Laws as I′
-use Rattle.walker.specs.Advance.{FrameAt, begun, advanced, stateAfter, nthOf}
+use Rattle.walker.specs.Advance.{FrameAt, begun, advanced, nthOf}
 use Rattle.walker.specs.NthClauses.{endsAt}
 use Rattle.walker.specs.declared.Walk.{Walk}
 use Rattle.walker.specs.declared.Advanced.{Advanced}
@@ -97,10 +97,11 @@ abbrev Went : Walk → Advanced → Type 0
 Went d r = (r ≡ advanced d (r .frame)) × FrameAt (d .«record») (r .item) (r .frame)
 
 -- where it ends, no step is left, or done is said: the step is that of all of them
-arrived : (bytes : List ℕ) (m : ℕ) (t : State) (x : It.Item) → stepAt 3 bytes t .item ≡ x → Holds (endsAt m x) → stepAt 3 bytes t ≡ stepAt 3 bytes (stateAfter bytes m t)
+arrived : (bytes : List ℕ) (m : ℕ) (t : State) (x : It.Item) → stepAt 3 bytes t .item ≡ x → Holds (endsAt m x) → stepAt 3 bytes t ≡ stepAt 3 bytes (stateAfter 3 bytes m t)
 unfolding stateAfter endsAt
-arrived bytes m t (Frame p h) e z = ap (λ (k : ℕ). stepAt 3 bytes (stateAfter bytes k t)) (sym (eqb→eq m 0 z))
-arrived bytes m t (Lost p k) e z = ap (λ (k : ℕ). stepAt 3 bytes (stateAfter bytes k t)) (sym (eqb→eq m 0 z))
+arrived bytes m t (Frame p h) e z = ap (λ (k : ℕ). stepAt 3 bytes (stateAfter 3 bytes k t)) (sym (eqb→eq m 0 z))
+arrived bytes m t (Lost p k) e z = ap (λ (k : ℕ). stepAt 3 bytes (stateAfter 3 bytes k t)) (sym (eqb→eq m 0 z))
+arrived bytes m t (Idle p) e z = ap (λ (k : ℕ). stepAt 3 bytes (stateAfter 3 bytes k t)) (sym (eqb→eq m 0 z))
 arrived bytes m t (Done p) e z = sym (done-on bytes m t p e)
 
 -- where it does not, one is left, at least
@@ -108,10 +109,11 @@ some-left : (m : ℕ) (x : It.Item) → Holds (not (endsAt m x)) → 1 ≤ m
 unfolding endsAt
 some-left zero (Frame p h) z = absurd z
 some-left zero (Lost p k) z = absurd z
+some-left zero (Idle p) z = absurd z
 some-left zero (Done p) z = absurd z
 some-left (suc m) x z = omega arith
 
-goes-on : (bytes : List ℕ) (m : ℕ) (t : State) → 1 ≤ m → stateAfter bytes m t ≡ stateAfter bytes (m - 1) (stepAt 3 bytes t .walk)
+goes-on : (bytes : List ℕ) (m : ℕ) (t : State) → 1 ≤ m → stateAfter 3 bytes m t ≡ stateAfter 3 bytes (m - 1) (stepAt 3 bytes t .walk)
 unfolding stateAfter
 goes-on bytes zero t h = absurd (omega (arith, h))
 goes-on bytes (suc m) t h = let z : suc m - 1 ≡ m = omega arith in rw z
@@ -202,7 +204,7 @@ module _ {M : Type 1} (𝓤 : URA M) (H : Heap 𝓤) (A : Atoms 𝓤) (W : Given
 
   -- the variant: how many steps are left from a state, which end where all of them do
   abbrev Upto : Type 0
-  Upto = (m : ℕ) × (t : State) × Good t × (m ≤ n) × (stateAfter (now s) m t ≡ stateAfter (now s) n (hunting 0 0))
+  Upto = (m : ℕ) × (t : State) × Good t × (m ≤ n) × (stateAfter 3 (now s) m t ≡ stateAfter 3 (now s) n (hunting 0 0))
 
   abbrev Nearer : Upto → Upto → Type 0
   Nearer u t = u .0 < t .0
@@ -267,7 +269,7 @@ module _ {M : Type 1} (𝓤 : URA M) (H : Heap 𝓤) (A : Atoms 𝓤) (W : Given
           assigns-last ! (bin ! (load ! (from ! (stop !)) (look ! 16 refl)) (lit ! tt) more) (from ! (stop !)) (store ! 16 refl (tt, record { fits = fewer t })) $
           forget ! 8 refl $ forget ! 10 refl $ forget ! 12 refl $ forget ! 14 refl $
           rewrite ! 18 (λ (d : Walk). ‵ (fat fullShare walkT l₃ 0 (mach κ d))) (λ i. record { «record» = e .0 i .walk .«record»; state = r .walk .state }) refl $
-          again ! Nearer At t (t .0 - 1, r .walk .state, state-is r is, within t, sym (goes-on (now s) (t .0) (t .1) more ∙ ap (λ (x : Advanced). stateAfter (now s) (t .0 - 1) (x .walk .state)) (sym (e .0))) ∙ t .4) (nearer t more))))))))))
+          again ! Nearer At t (t .0 - 1, r .walk .state, state-is r is, within t, sym (goes-on (now s) (t .0) (t .1) more ∙ ap (λ (x : Advanced). stateAfter 3 (now s) (t .0 - 1) (x .walk .state)) (sym (e .0))) ∙ t .4) (nearer t more))))))))))
         where
           item-is : (r : Advanced) {u : Val} → Is (R.the-row (α κ)) r (u ∷ []) → Is I.the-row (r .item) (machI (r .item) ∷ [])
           item-is r is = LL.owed (R.the-type (α κ)) (R′.the-laws (α κ)) r _ is .0
