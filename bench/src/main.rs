@@ -192,7 +192,7 @@ fn walked(record: &[u8]) -> usize {
     loop {
         let number = abi::step(black_box(record), black_box(&mut walk));
         assert_eq!(number, 0);
-        match walk[10] {
+        match walk[abi::KIND] {
             abi::DONE_ITEM => return frames,
             kind => frames += usize::from(kind == abi::FRAME_ITEM),
         }
@@ -208,7 +208,7 @@ fn walked_rust(record: &[u8]) -> usize {
         match item {
             Item::Done(_) => return frames,
             Item::Frame(..) => frames += 1,
-            Item::Lost(..) => {}
+            Item::Lost(..) | Item::Idle(_) => {}
         }
         state = next;
     }

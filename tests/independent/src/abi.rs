@@ -1,21 +1,25 @@
 //! The proved exports, called as C calls them, and the bytes they take and give.
 
-use crate::frame::{Reading, Stream, Table, Timestamp};
+use crate::frame::{Reading, Stream, Table, Timestamp, NULL_TRANSMISSION};
 use crate::signalling;
 use crate::walk::{Item, State};
 use crate::writing::Fields;
 
 pub const ANSWER: usize = 406;
 pub const PART: usize = 4;
-pub const WALK: usize = 20;
 pub const FIELDS: usize = 401;
+/// A walk's bytes are its state's and behind them its item's, the kind first.
+pub const STATE: usize = 10;
 pub const ITEM: usize = 10;
+pub const WALK: usize = STATE + ITEM;
+pub const KIND: usize = STATE;
 pub const SIGNAL: usize = 24;
 
 /// The kinds of item.
 pub const FRAME_ITEM: u8 = 0;
 pub const LOST_ITEM: u8 = 1;
-pub const DONE_ITEM: u8 = 2;
+pub const IDLE_ITEM: u8 = 2;
+pub const DONE_ITEM: u8 = 3;
 
 #[link(name = "controller", kind = "static")]
 #[link(name = "entries", kind = "static")]
@@ -255,6 +259,7 @@ pub fn item_bytes(item: &Item) -> Vec<u8> {
     let (kind, number, place) = match item {
         Item::Frame(place, _) => (FRAME_ITEM, 0, *place),
         Item::Lost(place, number) => (LOST_ITEM, *number, *place),
+        Item::Idle(place) => (IDLE_ITEM, NULL_TRANSMISSION, *place),
         Item::Done(place) => (DONE_ITEM, 0, *place),
     };
     let mut bytes = vec![kind, number];
@@ -262,13 +267,18 @@ pub fn item_bytes(item: &Item) -> Vec<u8> {
     bytes
 }
 
-/// A step's own state, from the first ten of its bytes.
+/// A step's own state, from the first of its bytes.
 pub fn state_of(walk: &[u8]) -> State {
     State {
         place: place_of(&walk[..8]),
         misses: usize::from(walk[8]),
         lock: walk[9] == 1,
     }
+}
+
+/// The kind and the place of the item behind a state.
+pub fn item_of(walk: &[u8]) -> (u8, usize) {
+    (walk[KIND], place_of(&walk[KIND + 2..]))
 }
 
 pub fn place_of(bytes: &[u8]) -> usize {

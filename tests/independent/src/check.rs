@@ -12,7 +12,7 @@ use crate::generate::writings::{writing_case, Writing};
 use crate::generate::{Random, Sort};
 use crate::relay::relay;
 use crate::sum::sum;
-use crate::walk::{nth, stands, step, State, MOST_MISSES};
+use crate::walk::{is_null, nth, stands, step, State, MOST_MISSES};
 use crate::writing::{write, PADDING};
 use std::fmt::Debug;
 use std::ops::AddAssign;
@@ -36,8 +36,8 @@ pub struct Tally {
     pub records: u64,
     /// Cases by the number they got.
     pub numbers: [u64; 14],
-    /// Items done, frames and lost marks.
-    pub items: [u64; 3],
+    /// Items by their kind.
+    pub items: [u64; 4],
     pub signals: u64,
     /// Messages, at 0, and drops and refusals of signalling by their number.
     pub signal_numbers: [u64; 37],
@@ -50,7 +50,7 @@ impl Default for Tally {
             writings: 0,
             records: 0,
             numbers: [0; 14],
-            items: [0; 3],
+            items: [0; 4],
             signals: 0,
             signal_numbers: [0; 37],
         }
@@ -269,7 +269,7 @@ impl Case<'_> {
         loop {
             let before = abi::state_of(&walk);
             walk = self.step(record, walk, before)?;
-            let (kind, place) = (walk[10], abi::place_of(&walk[12..]));
+            let (kind, place) = abi::item_of(&walk);
             self.tally.items[usize::from(kind)] += 1;
             if kind == abi::DONE_ITEM {
                 self.step(record, walk.clone(), abi::state_of(&walk))?;
@@ -279,6 +279,7 @@ impl Case<'_> {
             if kind == abi::FRAME_ITEM {
                 frames.push(place);
             }
+            // An idle item's refusal is 4, which does not count.
             refused_in_a_row = (refused_in_a_row + 1) * usize::from(kind == abi::LOST_ITEM);
             self.one_item_a_period(before, place, refused_in_a_row, &walk)?;
         }
@@ -304,7 +305,7 @@ impl Case<'_> {
         self.expect("step", walk, expected, |walk| abi::step(record, walk))
     }
 
-    /// In lock each item is of the period at hand, until three in a row are refused.
+    /// In lock each item is of the period at hand, until three in a row are refused for a reason other than 4.
     fn one_item_a_period(
         &mut self,
         before: State,
@@ -332,7 +333,7 @@ impl Case<'_> {
                 .pick(&[0, 1, 2, 3, 4, 255, usize::from(walk[8])]),
             lock: self.random.one_in(2),
         };
-        walk[..10].copy_from_slice(&abi::state_bytes(state));
+        walk[..abi::STATE].copy_from_slice(&abi::state_bytes(state));
         match self.random.below(8) {
             0 => {
                 walk[9] = self.random.pick(&[2, 3, 128, 255]);
@@ -364,11 +365,13 @@ impl Case<'_> {
     }
 
     /// Whatever came before, a run's third frame and all behind it are handed out. Where a place
-    /// less than a period before the run stands, a lock on it reaches into the third frame; then
-    /// it is the fourth, if there is a fifth.
+    /// less than a period before the run reads as a frame or a null transmission, a lock on it
+    /// reaches into the third frame; then it is the fourth, if there is a fifth.
     fn run_is_handed_out(&mut self, record: &[u8], run: Run, frames: &[usize]) -> Checked<()> {
         let before = run.start.saturating_sub(FRAME - 1)..run.start;
-        let overhung = before.into_iter().any(|place| stands(record, place));
+        let overhung = before
+            .into_iter()
+            .any(|place| stands(record, place) || is_null(record, place));
         let due = if overhung { 3 } else { 2 };
         let last = run.frames - 1;
         if overhung && last == due {

@@ -13,6 +13,8 @@ pub const MOST_FL: usize = 1532;
 pub const NO_TIME: u32 = 0xFF_FFFF;
 /// The last number that is a time (annex C.2); from there to the one that means none, numbers are reserved.
 pub const LAST_TIME: u32 = 16_383_999;
+/// The refusal number of a null transmission.
+pub const NULL_TRANSMISSION: u8 = 4;
 /// The logical frame begins behind status and sync word.
 pub const LOGICAL: usize = 4;
 /// Status bytes of levels 0 to 3 as clause 5.2 has them; the paper's copy swaps levels 1 and 2.
@@ -119,7 +121,7 @@ pub fn judge(frame: &[u8]) -> u8 {
 /// Rules 4 to 10, of a frame that the earlier rules accept.
 fn judge_logical(frame: &[u8]) -> u8 {
     if frame[LOGICAL..LOGICAL + 4] == [0xFF; 4] {
-        4
+        NULL_TRANSMISSION
     } else if nst(frame) > MOST_STREAMS {
         5
     } else if sum(header_summed(frame)) != two(frame, main_start(frame) - 2) {

@@ -1,5 +1,6 @@
 //! The listing program's output.
 
+use crate::frame::NULL_TRANSMISSION;
 use crate::walk::{step, Item, State};
 
 /// Longer inputs are not listed.
@@ -28,6 +29,7 @@ fn line(item: &Item) -> String {
             format!("{place} frame {} {}\n", header.fct, header.level)
         }
         Item::Lost(place, number) => format!("{place} lost {number} -\n"),
+        Item::Idle(place) => format!("{place} idle {NULL_TRANSMISSION} -\n"),
         Item::Done(place) => format!("end {place}\n"),
     }
 }

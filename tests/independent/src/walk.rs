@@ -1,6 +1,6 @@
 //! Walking a record, one item a step.
 
-use crate::frame::{fsync1, judge, read, Reading, FRAME};
+use crate::frame::{fsync1, judge, read, Reading, FRAME, NULL_TRANSMISSION};
 use std::ops::Range;
 
 /// After so many misses in a row the lock is lost.
@@ -20,6 +20,8 @@ pub enum Item {
     Frame(usize, Reading),
     /// A lost mark: the place and the refusal number.
     Lost(usize, u8),
+    /// A null transmission in lock.
+    Idle(usize),
     Done(usize),
 }
 
@@ -46,24 +48,31 @@ pub fn stands(record: &[u8], place: usize) -> bool {
     period(record, place).is_some_and(|frame| judge(frame) == 0)
 }
 
+/// The place's 6,144 bytes exist and read as a null transmission.
+pub fn is_null(record: &[u8], place: usize) -> bool {
+    period(record, place).is_some_and(|frame| judge(frame) == NULL_TRANSMISSION)
+}
+
 fn period(record: &[u8], place: usize) -> Option<&[u8]> {
     record.get(place..)?.get(..FRAME)
 }
 
 fn in_lock(frame: &[u8], state: State) -> (Item, State) {
+    let place = state.place;
     match read(frame) {
-        Ok(reading) => handed_out(state.place, reading),
-        Err(number) => (Item::Lost(state.place, number), after_miss(state)),
+        Ok(reading) => (Item::Frame(place, reading), locked_behind(place)),
+        Err(NULL_TRANSMISSION) => (Item::Idle(place), locked_behind(place)),
+        Err(number) => (Item::Lost(place, number), after_miss(state)),
     }
 }
 
-fn handed_out(place: usize, reading: Reading) -> (Item, State) {
-    let next = State {
+/// In lock a period on, the misses cleared.
+fn locked_behind(place: usize) -> State {
+    State {
         place: place + FRAME,
         misses: 0,
         lock: true,
-    };
-    (Item::Frame(place, reading), next)
+    }
 }
 
 fn after_miss(state: State) -> State {
@@ -85,7 +94,7 @@ fn hunt(record: &[u8], state: State) -> (Item, State) {
         .find(|&place| begins_lock(record, place))
         .and_then(|place| Some((place, read(period(record, place)?).ok()?)));
     match found {
-        Some((place, reading)) => handed_out(place, reading),
+        Some((place, reading)) => (Item::Frame(place, reading), locked_behind(place)),
         None => (
             Item::Done(end),
             State {

@@ -2,6 +2,7 @@
 
 use independent::frame::{
     fic_part, judge, main_stream_part, read, stream_part, Stream, Timestamp, EMPTY, FRAME, STATUS,
+    SYNC,
 };
 use independent::listing::listing;
 use independent::relay::relay;
@@ -174,6 +175,94 @@ fn listing_of_the_paper() {
     assert_eq!(listing(&[]), "place kind code level\nend 0\n");
 }
 
+/// A null transmission: all its other data bytes are FF too.
+fn null(fsync1: bool) -> Vec<u8> {
+    let mut frame = vec![0xFF; FRAME];
+    frame[1..4].copy_from_slice(&SYNC[usize::from(fsync1)]);
+    frame
+}
+
+/// The listing of the paper's first two frames, the periods given and the other two frames.
+fn listing_around(periods: &[Vec<u8>]) -> String {
+    let (before, behind) = (&record()[..2 * FRAME], &record()[2 * FRAME..]);
+    listing(&[before, &periods.concat(), behind].concat())
+}
+
+#[test]
+fn a_night_keeps_the_lock() {
+    let night: Vec<_> = (0..5).map(|n| null(n % 2 == 1)).collect();
+    let lines = "place kind code level\n0 frame 10 0\n6144 frame 11 0\n\
+                 12288 idle 4 -\n18432 idle 4 -\n24576 idle 4 -\n30720 idle 4 -\n36864 idle 4 -\n\
+                 43008 frame 12 0\n49152 frame 13 0\nend 55296\n";
+    assert_eq!(listing_around(&night), lines);
+}
+
+/// A wrong sync word, and behind it a wrong status byte, are met by the rules before null transmission.
+#[test]
+fn damaged_null_transmissions_are_lost() {
+    let (mut sync, mut status) = (null(false), null(true));
+    sync[3] = 0xB7;
+    status[0] = 0x01;
+    let both = [&[0x01][..], &sync[1..]].concat();
+    let lines = "place kind code level\n0 frame 10 0\n6144 frame 11 0\n\
+                 12288 lost 2 -\n18432 lost 3 -\n24576 idle 4 -\n30720 lost 2 -\n\
+                 36864 frame 12 0\n43008 frame 13 0\nend 49152\n";
+    assert_eq!(listing_around(&[sync, status, null(false), both]), lines);
+}
+
+/// Two misses, an idle item, two misses: never three in a row.
+#[test]
+fn an_idle_item_clears_the_misses() {
+    let lost = vec![0; FRAME];
+    let periods = [&lost, &lost, &null(false), &lost, &lost].map(Clone::clone);
+    let lines = "place kind code level\n0 frame 10 0\n6144 frame 11 0\n\
+                 12288 lost 2 -\n18432 lost 2 -\n24576 idle 4 -\n30720 lost 2 -\n36864 lost 2 -\n\
+                 43008 frame 12 0\n49152 frame 13 0\nend 55296\n";
+    assert_eq!(listing_around(&periods), lines);
+}
+
+/// Behind the third miss the walk hunts, and passes over null transmissions.
+#[test]
+fn a_hunt_never_begins_on_a_null_transmission() {
+    let lost = vec![0; FRAME];
+    let periods = [&lost, &lost, &lost, &null(false), &null(true)].map(Clone::clone);
+    let lines = "place kind code level\n0 frame 10 0\n6144 frame 11 0\n\
+                 12288 lost 2 -\n18432 lost 2 -\n24576 lost 2 -\n\
+                 43008 frame 12 0\n49152 frame 13 0\nend 55296\n";
+    assert_eq!(listing_around(&periods), lines);
+}
+
+/// The first frame has a null transmission with the other sync word behind it: it is not handed out.
+#[test]
+fn a_null_transmission_does_not_confirm() {
+    let frames = record();
+    let (first, last) = (&frames[..FRAME], &frames[2 * FRAME..]);
+    let hunted = [&null(true)[..], first, &null(true), last].concat();
+    let lines = "place kind code level\n18432 frame 12 0\n24576 frame 13 0\nend 30720\n";
+    assert_eq!(listing(&hunted), lines);
+    assert_eq!(listing(&null(false)), "place kind code level\nend 1\n");
+}
+
+#[test]
+fn the_last_null_transmission_is_idle_if_it_is_whole() {
+    let whole = [&record()[..2 * FRAME], &null(false)].concat();
+    let step_from = |bytes: &[u8]| {
+        let state = State {
+            place: 2 * FRAME,
+            misses: 2,
+            lock: true,
+        };
+        let (item, next) = step(bytes, state);
+        (item, next.place, next.misses, next.lock)
+    };
+    let idle = (Item::Idle(2 * FRAME), 3 * FRAME, 0, true);
+    assert_eq!(step_from(&whole), idle);
+    let done = (Item::Done(2 * FRAME), 2 * FRAME, 2, true);
+    assert_eq!(step_from(&whole[..3 * FRAME - 1]), done);
+    assert_eq!(nth(&whole, 2), Item::Idle(2 * FRAME));
+    assert_eq!(nth(&whole, 3), Item::Done(3 * FRAME));
+}
+
 #[test]
 fn items_by_number() {
     let mut record = record();
@@ -192,7 +281,7 @@ fn frame_places(record: &[u8]) -> Vec<usize> {
         let (item, next) = step(record, state);
         match item {
             Item::Frame(place, _) => places.push(place),
-            Item::Lost(..) => {}
+            Item::Lost(..) | Item::Idle(_) => {}
             Item::Done(_) => return places,
         }
         state = next;

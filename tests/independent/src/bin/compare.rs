@@ -130,8 +130,8 @@ fn report(tally: &Tally) -> ExitCode {
     println!("frames {}", tally.frames);
     println!("writings {}", tally.writings);
     println!("records {}", tally.records);
-    let [frames, lost, done] = tally.items;
-    println!("items: frames {frames}, lost marks {lost}, done {done}");
+    let [frames, lost, idle, done] = tally.items;
+    println!("items: frames {frames}, lost marks {lost}, idle {idle}, done {done}");
     for (number, count) in tally.numbers.iter().enumerate() {
         println!("number {number}: {count} cases");
     }
@@ -141,8 +141,8 @@ fn report(tally: &Tally) -> ExitCode {
         println!("signalling, number {number}: {count} times");
         never |= count == 0;
     }
-    if never || tally.numbers.contains(&0) {
-        println!("a number was never met");
+    if never || tally.numbers.contains(&0) || tally.items.contains(&0) {
+        println!("a number or a kind of item was never met");
         return ExitCode::FAILURE;
     }
     println!("no mismatch");

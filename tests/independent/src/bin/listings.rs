@@ -1,7 +1,7 @@
 //! The listing program held to the independent listing: listings COUNT PROGRAM [ARGUMENTS].
 
 use independent::generate::{records::record_case, Random, Sort};
-use independent::listing::listing;
+use independent::listing::{listing, MOST_BYTES};
 use std::io::Write;
 use std::process::{Command, ExitCode, Stdio};
 
@@ -16,8 +16,13 @@ fn main() -> ExitCode {
         eprintln!("usage: listings COUNT PROGRAM [ARGUMENTS]");
         return ExitCode::from(2);
     };
+    let mut idle = 0;
     for case in 0..count {
-        let record = record_case(&mut Random::new(SEED, Sort::Record, case)).bytes;
+        let mut record = record_case(&mut Random::new(SEED, Sort::Record, case)).bytes;
+        // Few are left longer than is listed.
+        if case % 8 != 0 {
+            record.truncate(MOST_BYTES);
+        }
         let (proved, expected) = (listed(program, &arguments[2..], &record), listing(&record));
         if proved != expected {
             println!(
@@ -25,8 +30,13 @@ fn main() -> ExitCode {
             );
             return ExitCode::FAILURE;
         }
+        idle += expected.matches(" idle ").count();
     }
-    println!("listings {count}, no mismatch");
+    if idle == 0 {
+        println!("an idle item was never listed");
+        return ExitCode::FAILURE;
+    }
+    println!("listings {count}, idle items {idle}, no mismatch");
     ExitCode::SUCCESS
 }
 

@@ -244,7 +244,7 @@ fn repair_header_sum(frame: &mut [u8]) {
     frame[end..end + 2].copy_from_slice(&right.to_be_bytes());
 }
 
-fn wrong_sync_word(frame: &mut [u8], random: &mut Random) {
+pub fn wrong_sync_word(frame: &mut [u8], random: &mut Random) {
     match random.below(3) {
         0 => flip(&mut frame[1..4], random),
         // Bytes of the two words mixed.

@@ -1,8 +1,8 @@
-//! Records: intact frames with damage of every sort before, between and behind them.
+//! Records: intact frames with damage of every sort and null transmissions before, between and behind them.
 
-use super::frames::{flip, frame_with, Draft, Fault, FAULTS};
+use super::frames::{flip, frame_with, wrong_sync_word, Draft, Fault, FAULTS};
 use super::Random;
-use crate::frame::{FRAME, STATUS, SYNC};
+use crate::frame::{FRAME, LOGICAL, STATUS, SYNC};
 
 /// Intact frames at a record's end, sync words alternating.
 #[derive(Clone, Copy)]
@@ -29,10 +29,11 @@ pub fn record_case(random: &mut Random) -> Record {
         next: random.below(2),
     };
     let mut run = None;
-    let kind = match random.below(8) {
+    let kind = match random.below(9) {
         0 => making.clean(random),
         1 => making.short(random),
-        2..=4 => making.pieces(random),
+        2 => making.nights(random),
+        3..=5 => making.pieces(random),
         _ => {
             run = Some(making.damage_then_run(random));
             "damage, then a run of intact frames"
@@ -50,6 +51,33 @@ fn intact(sync: usize, random: &mut Random) -> Vec<u8> {
     let mut draft = Draft::valid(random);
     draft.sync = SYNC[sync];
     draft.frame(random)
+}
+
+/// A null transmission with the sync word given. All its other bytes may be FF (clause 5.9), or those of a frame.
+fn null(sync: usize, random: &mut Random) -> Vec<u8> {
+    let mut frame = if random.one_in(2) {
+        vec![0xFF; FRAME]
+    } else {
+        intact(sync, random)
+    };
+    frame[..LOGICAL + 4].copy_from_slice(&null_head(sync, random));
+    frame
+}
+
+/// What makes a null transmission of the bytes it begins.
+fn null_head(sync: usize, random: &mut Random) -> Vec<u8> {
+    [&[random.pick(&STATUS)][..], &SYNC[sync], &[0xFF; 4]].concat()
+}
+
+/// A null transmission that an earlier rule refuses.
+fn damaged_null(sync: usize, random: &mut Random) -> Vec<u8> {
+    let mut frame = null(sync, random);
+    if random.one_in(2) {
+        wrong_sync_word(&mut frame, random);
+    } else {
+        frame[0] = random.pick(&[0x01, 0xF1, 0x55, 0x7F, 0xFE]);
+    }
+    frame
 }
 
 impl Making {
@@ -84,6 +112,20 @@ impl Making {
         "pieces"
     }
 
+    /// The last night is at the very end, or cut short in its last period.
+    fn nights(&mut self, random: &mut Random) -> &'static str {
+        for _ in 0..random.within(1, 3) {
+            self.lead(random);
+            self.several_intact(random);
+            self.night(random);
+        }
+        if random.one_in(3) {
+            let missing = random.within(1, FRAME - 1);
+            self.bytes.truncate(self.bytes.len() - missing);
+        }
+        "nights"
+    }
+
     fn damage_then_run(&mut self, random: &mut Random) -> Run {
         self.lead(random);
         for _ in 0..random.below(5) {
@@ -106,7 +148,7 @@ impl Making {
     }
 
     fn piece(&mut self, random: &mut Random) {
-        match random.below(12) {
+        match random.below(16) {
             0 | 1 => self.several_intact(random),
             2 => self.same_sync_word(random),
             3..=5 => self.bad_run(random),
@@ -115,6 +157,9 @@ impl Making {
             8 => self.deleted(random),
             9 => self.false_sync_words(random),
             10 => self.frames_in_payloads(random),
+            11 | 12 => self.night(random),
+            13 => self.unconfirmed(random),
+            14 => self.idle_between_losses(random),
             _ => self.flipped(random),
         }
     }
@@ -154,15 +199,64 @@ impl Making {
         }
     }
 
+    fn null(&mut self, random: &mut Random) {
+        let frame = null(self.next, random);
+        self.add(&frame);
+    }
+
+    fn damaged_null(&mut self, random: &mut Random) {
+        let frame = damaged_null(self.next, random);
+        self.add(&frame);
+    }
+
+    /// Null transmissions, more in a row than misses are borne, now and then a damaged one among them.
+    fn night(&mut self, random: &mut Random) {
+        let many = random.within(4, 12);
+        for _ in 0..random.pick(&[1, 2, 3, many]) {
+            if random.one_in(8) {
+                self.damaged_null(random);
+            } else {
+                self.null(random);
+            }
+        }
+    }
+
+    /// Frames that stand, a null transmission a period behind each: they begin no lock.
+    fn unconfirmed(&mut self, random: &mut Random) {
+        for _ in 0..random.within(1, 3) {
+            self.intact(random);
+            self.null(random);
+        }
+    }
+
+    /// Fewer misses than lose the lock, a null transmission that clears them, and misses again.
+    fn idle_between_losses(&mut self, random: &mut Random) {
+        for _ in 0..2 {
+            for _ in 0..random.within(1, 2) {
+                self.damaged_null(random);
+            }
+            self.null(random);
+        }
+    }
+
+    /// An intact frame, now and then a null transmission.
+    fn period(&self, random: &mut Random) -> Vec<u8> {
+        if random.one_in(4) {
+            null(self.next, random)
+        } else {
+            intact(self.next, random)
+        }
+    }
+
     fn cut(&mut self, random: &mut Random) {
-        let frame = intact(self.next, random);
+        let frame = self.period(random);
         let any = random.below(FRAME);
         let length = random.pick(&[1, 3, 4, FRAME - 1, any, any]);
         self.add(&frame[..length]);
     }
 
     fn inserted(&mut self, random: &mut Random) {
-        let mut frame = intact(self.next, random);
+        let mut frame = self.period(random);
         let at = random.below(FRAME);
         let extra = random.within(1, 4);
         let extra = random.bytes(extra);
@@ -170,9 +264,9 @@ impl Making {
         self.add(&frame);
     }
 
-    /// Deleted from the padding, a frame still stands and overhangs the next.
+    /// Deleted from the padding, a frame still stands and overhangs the next; so does a null transmission.
     fn deleted(&mut self, random: &mut Random) {
-        let mut frame = intact(self.next, random);
+        let mut frame = self.period(random);
         let at = random.below(FRAME - 4);
         let many = random.within(1, 4);
         frame.drain(at..at + many);
@@ -180,12 +274,14 @@ impl Making {
     }
 
     fn false_sync_words(&mut self, random: &mut Random) {
-        let length = random.within(8, FRAME + 100);
+        let length = random.within(16, FRAME + 100);
         let mut bytes = random.bytes(length);
         for _ in 0..random.below(20) {
-            let at = random.below(length - 4);
-            bytes[at] = random.pick(&STATUS);
-            bytes[at + 1..at + 4].copy_from_slice(&random.pick(&SYNC));
+            // As much of a null transmission's head as makes a false sync word, or all of it.
+            let end = random.pick(&[LOGICAL, LOGICAL, LOGICAL + 4]);
+            let at = random.below(length - end);
+            let sync = random.below(2);
+            bytes[at..at + end].copy_from_slice(&null_head(sync, random)[..end]);
         }
         self.bytes.extend(bytes);
     }
@@ -207,7 +303,7 @@ impl Making {
     }
 
     fn flipped(&mut self, random: &mut Random) {
-        let mut frame = intact(self.next, random);
+        let mut frame = self.period(random);
         for _ in 0..random.within(1, 3) {
             let end = random.pick(&[16, 300, FRAME]);
             flip(&mut frame[..end], random);
@@ -216,8 +312,11 @@ impl Making {
     }
 }
 
-/// The carried bytes of a small frame, now and then damaged.
+/// The carried bytes of a small frame, now and then damaged, or what makes a null transmission.
 fn held(sync: usize, random: &mut Random) -> Vec<u8> {
+    if random.one_in(4) {
+        return null_head(sync, random);
+    }
     let draft = Draft {
         sync: SYNC[sync],
         ..drawn(random, |draft| draft.carried() < 2000)
