@@ -183,11 +183,12 @@ static void nulls(request *ask, const uint8_t *frame, size_t right) {
 }
 
 int main(void) {
-    size_t four_len, damaged_len, noise_len;
+    size_t four_len, damaged_len, noise_len, night_len;
     uint8_t answer[SPINDLEWREN_ANSWER];
     uint8_t *four = load("samples/four.eti", &four_len);
     uint8_t *damaged = load("samples/damaged.eti", &damaged_len);
     uint8_t *noise = load("samples/noise.eti", &noise_len);
+    uint8_t *night = load("samples/night.eti", &night_len);
     uint8_t *megabyte = calloc(1 << 20, 1);
     memset(answer, FILL, sizeof answer);
     frames(four, damaged);
@@ -204,12 +205,14 @@ int main(void) {
     walked(four, four_len, "tests/listing/four.out");
     walked(damaged, damaged_len, "tests/listing/damaged.out");
     walked(noise, noise_len, "tests/listing/noise.out");
+    walked(night, night_len, "tests/listing/night.out");
     walked(four, 0, "tests/listing/empty.out");
     states(four, four_len);
     rows();
     free(four);
     free(damaged);
     free(noise);
+    free(night);
     free(megabyte);
     printf("boundary: %lu calls, %s\n", calls, bad ? "FAILED" : "ok");
     return bad;
