@@ -19,7 +19,7 @@ use Rattle.walk.specs.declared.Item.{Item}
 use Rattle.walk.specs.declared.State.{State}
 use Rattle.walk.specs.declared.Step.{Step}
 use Rattle.walk.specs.ItemValues.{kindOf, placeOf, numberOf}
-use Rattle.walk.specs.Records.{stepAt}
+use Rattle.walk.specs.Records.{allowed, limitRefusalOf, stepAt}
 
 -- values one after another, each in its number of bytes, high byte first
 abbrev pub encode : List ℕ → List ℕ → List ℕ
@@ -70,27 +70,31 @@ answerOf f = encode headCounts (fieldsOf f) ++ tableBytes (tableBy (streamsOf f)
 unfoldable pub partBytes : Span → List ℕ
 partBytes p = encode (2 ∷ 2 ∷ []) (p .start ∷ p .len ∷ [])
 
--- misses and lock of a walk's state, kind and refusal number of its last item
+-- misses, lock and limit of a walk's state, kind and refusal number of its last item
 abbrev pub marksCounts : List ℕ
-marksCounts = 1 ∷ 1 ∷ 1 ∷ 1 ∷ []
+marksCounts = 1 ∷ 1 ∷ 1 ∷ 1 ∷ 1 ∷ []
 
 abbrev pub marksValues : Item → State → List ℕ
-marksValues x s = s .misses ∷ digit (s .lock) ∷ kindOf x ∷ numberOf x ∷ []
+marksValues x s = s .position .misses ∷ digit (s .position .lock) ∷ s .limit ∷ kindOf x ∷ numberOf x ∷ []
 
--- a walk's 20 bytes: its place, the marks, and the item's place
+-- a walk's 21 bytes: its place, the marks, and the item's place
 unfoldable pub stepBytes : Item → State → List ℕ
-stepBytes x s = encode (8 ∷ []) (s .place ∷ []) ++ encode marksCounts (marksValues x s) ++ encode (8 ∷ []) (placeOf x ∷ [])
+stepBytes x s = encode (8 ∷ []) (s .position .place ∷ []) ++ encode marksCounts (marksValues x s) ++ encode (8 ∷ []) (placeOf x ∷ [])
 
 -- the state in a walk's bytes
 unfoldable pub stateIn : List ℕ → State
-stateIn w = record { place = eightAt w 0; misses = getD w 8 0; lock = eqb (getD w 9 0) 1 }
+stateIn w = record { limit = getD w 10 0; position = record { place = eightAt w 0; misses = getD w 8 0; lock = eqb (getD w 9 0) 1 } }
 
 -- the bytes that a step leaves, and a walk's bytes w after a step over a record
 abbrev pub leftBy : Step → List ℕ
 leftBy r = stepBytes (r .item) (r .walk)
 
 abbrev pub walkOf : List ℕ → List ℕ → List ℕ
-walkOf bytes w = leftBy (stepAt 3 bytes (stateIn w))
+walkOf bytes w = leftBy (stepAt bytes (stateIn w))
+
+-- a walk begun with limit m: all zero but the limit
+unfoldable pub begunBytes : ℕ → List ℕ
+begunBytes m = replicate 10 0 ++ (m ∷ replicate 10 0)
 
 -- the lock is one bit: above 1 it is a value wider than its field
 unfoldable pub stateRefusalOf : List ℕ → ℕ
@@ -105,7 +109,12 @@ pub record Told (n refusal : ℕ) (bytes was left : List ℕ) (r : ℕ) : Type 0
   pub number : r ≡ lentRefusal n (length was) refusal
   pub answer : left ≡ pick (eqb (lentRefusal n (length was) refusal) 0) bytes was
 
+-- the same of an export that takes a limit: 27 comes first
+pub record Limited (m n : ℕ) (bytes was left : List ℕ) (r : ℕ) : Type 0 where
+  pub number : r ≡ pick (allowed m) (lentRefusal n (length was) 0) (limitRefusalOf m)
+  pub answer : left ≡ pick (eqb r 0) bytes was
+
 -- ---- a walk from C: the bytes that calls of the step leave, one after another; each call is lent the bytes that the call before it left
 pub data Called (bytes : List ℕ) : List ℕ → List (List ℕ) → Type 0 where
   none : {w : List ℕ} → Called bytes w []
-  more : {w left : List ℕ} {r : ℕ} {ws : List (List ℕ)} → Told 20 (stateRefusalOf w) (walkOf bytes w) w left r → Called bytes left ws → Called bytes w (left ∷ ws)
+  more : {w left : List ℕ} {r : ℕ} {ws : List (List ℕ)} → Told 21 (stateRefusalOf w) (walkOf bytes w) w left r → Called bytes left ws → Called bytes w (left ∷ ws)

@@ -1,5 +1,5 @@
 // The reading and the walk for the transmitter's controller, on numbers and byte slices.
-ghost use mathlib.Core.List.{_++_};
+ghost use mathlib.Core.List.{[], _∷_, _++_};
 ghost use mathlib.Core.Path.{_≡_};
 ghost use Prim.Native.Nat.{_+_, _≤_, _<_};
 ghost use lib.ListN.{length};
@@ -7,13 +7,14 @@ ghost use Rattle.octets.specs.Stores.{put};
 ghost use Rattle.frame.specs.Rules.{refusalOf, streamRefusalOf, ficPart, streamPart};
 ghost use Rattle.frame.specs.Answers.{digit, sortOf, headerValues, timeBy};
 ghost use Rattle.walk.specs.ItemValues.{kindOf, placeOf, numberOf};
-ghost use Rattle.controller.specs.Boundary.{encode, headCounts, firstCounts, firstValues, secondCounts, secondValues, thirdCounts, thirdValues, streamBytes, tableBytes, answerOf, partBytes, marksCounts, marksValues, stepBytes, stateIn, walkOf, stateRefusalOf, Told};
+ghost use Rattle.controller.specs.Boundary.{encode, headCounts, firstCounts, firstValues, secondCounts, secondValues, thirdCounts, thirdValues, streamBytes, tableBytes, answerOf, partBytes, stepBytes, stateIn, walkOf, begunBytes, stateRefusalOf, Told, Limited};
 use frame::Answer;
 use frame::Header;
 use frame::Span;
 use frame::Stream;
 use frame::Timestamp;
 use walk::Item;
+use walk::Position;
 use walk::State;
 use walk::Step;
 
@@ -198,14 +199,18 @@ pub extern "C" fn spindlewren_stream(frame: &[u8], i: usize, answer: &mut [u8]) 
     0
 }
 
-// The walk's state, as its first ten bytes have it.
+// The walk's state, as its first eleven bytes have it.
 fn state_in(walk: &[u8]) -> State
-    ensures { λ r. ⌜ (r ≡ stateIn (now (walk .entry))) × (r .misses ≤ 255) ⌝ }
+    ensures { λ r. ⌜ (r ≡ stateIn (now (walk .entry))) × (r .position .misses ≤ 255) × (r .limit ≤ 255) ⌝ }
 {
-    State {
+    let position = Position {
         place: octets::eight(walk, 0),
         misses: octets::byte(walk, 8),
         lock: octets::byte(walk, 9) == 1,
+    };
+    State {
+        limit: octets::byte(walk, 10),
+        position,
     }
 }
 
@@ -242,37 +247,56 @@ fn place(item: Item) -> usize
     }
 }
 
-// Misses and lock, and the kind and refusal number of the item, from byte 8 on.
-fn put_marks(out: &mut [u8], item: Item, walk: State)
-    requires { ⌜ (length (now out) ≡ 20) × (walk .misses ≤ 255) ⌝ }
-    ensures { λ _. ⌜ now (out .exit) ≡ put (now (out .entry)) 8 (encode marksCounts (marksValues item walk)) ⌝ }
+// Misses, lock and limit, and the kind and refusal number of the item, from byte 8 on.
+fn put_marks(out: &mut [u8], misses: u8, lock: u8, limit: u8, kind: u8, number: u8)
+    requires { ⌜ length (now out) ≡ 21 ⌝ }
+    ensures { λ _. ⌜ now (out .exit) ≡ put (now (out .entry)) 8 (misses ∷ lock ∷ limit ∷ kind ∷ number ∷ []) ⌝ }
 {
-    let lock = bit(walk.lock);
-    let kind = kind(item);
-    let number = number(item);
-    out[8] = walk.misses as u8;
+    out[8] = misses;
     out[9] = lock;
-    out[10] = kind;
-    out[11] = number;
+    out[10] = limit;
+    out[11] = kind;
+    out[12] = number;
 }
 
-// The advanced walk in ten bytes, and its item in ten.
+// The advanced walk in eleven bytes, and its item in ten.
 fn put_step(out: &mut [u8], item: Item, walk: State)
-    requires { ⌜ (length (now out) ≡ 20) × (walk .misses ≤ 255) ⌝ }
+    requires { ⌜ (length (now out) ≡ 21) × (walk .position .misses ≤ 255) × (walk .limit ≤ 255) ⌝ }
     ensures { λ _. ⌜ now (out .exit) ≡ stepBytes item walk ⌝ }
 {
     let at = place(item);
-    octets::put8(out, 0, walk.place);
-    put_marks(out, item, walk);
-    octets::put8(out, 12, at);
+    let kind = kind(item);
+    let number = number(item);
+    let position = walk.position;
+    let lock = bit(position.lock);
+    octets::put8(out, 0, position.place);
+    put_marks(
+        out,
+        position.misses as u8,
+        lock,
+        walk.limit as u8,
+        kind,
+        number,
+    );
+    octets::put8(out, 13, at);
+}
+
+// A walk begun: all zero but the limit.
+fn put_begun(out: &mut [u8], limit: u8)
+    requires { ⌜ length (now out) ≡ 21 ⌝ }
+    ensures { λ _. ⌜ now (out .exit) ≡ begunBytes limit ⌝ }
+{
+    octets::put8(out, 0, 0);
+    put_marks(out, 0, 0, limit, 0, 0);
+    octets::put8(out, 13, 0);
 }
 
 // A step of the walk whose state is in the lent bytes: they then hold the advanced walk and its item. Any bytes are taken.
 #[no_mangle]
 pub extern "C" fn spindlewren_step(bytes: &[u8], walk: &mut [u8]) -> u8
-    ensures { λ r. ⌜ Told 20 (stateRefusalOf (now (walk .entry))) (walkOf (now (bytes .entry)) (now (walk .entry))) (now (walk .entry)) (now (walk .exit)) r ⌝ }
+    ensures { λ r. ⌜ Told 21 (stateRefusalOf (now (walk .entry))) (walkOf (now (bytes .entry)) (now (walk .entry))) (now (walk .entry)) (now (walk .exit)) r ⌝ }
 {
-    if walk.len() != 20 {
+    if walk.len() != 21 {
         return 1;
     }
     if walk[9] > 1 {
@@ -283,5 +307,21 @@ pub extern "C" fn spindlewren_step(bytes: &[u8], walk: &mut [u8]) -> u8
     let item = step.item;
     let next = step.walk;
     put_step(walk, item, next);
+    0
+}
+
+// A walk begun with a limit of misses: 27 for a limit outside 1 to 8, then 1 for walk's bytes of another length.
+#[no_mangle]
+pub extern "C" fn spindlewren_begin(limit: usize, walk: &mut [u8]) -> u8
+    ensures { λ r. ⌜ Limited limit 21 (begunBytes limit) (now (walk .entry)) (now (walk .exit)) r ⌝ }
+{
+    let refusal = walk::limit_refusal(limit);
+    if refusal != 0 {
+        return refusal;
+    }
+    if walk.len() != 21 {
+        return 1;
+    }
+    put_begun(walk, limit as u8);
     0
 }

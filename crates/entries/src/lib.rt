@@ -8,7 +8,7 @@ ghost use Rattle.octets.specs.Stores.{put};
 ghost use Rattle.frame.specs.Answers.{tableBy, timestampBy};
 ghost use Rattle.relay.specs.Relaying.{Relays};
 ghost use Rattle.walker.specs.Advance.{itemOf};
-ghost use Rattle.controller.specs.Boundary.{Told};
+ghost use Rattle.controller.specs.Boundary.{Limited};
 ghost use Rattle.entries.specs.Entered.{entryIn, entriesTo, fieldsIn, Entered};
 ghost use Rattle.entries.specs.Numbered.{tenBytes, itemBytes};
 use frame::Fields;
@@ -130,15 +130,20 @@ fn put_item(out: &mut [u8], item: Item)
     }
 }
 
-// The n-th item of the record's walk, from 0 on, in ten bytes; answer bytes of another length are refused with 1.
+// The n-th item of the record's walk with a limit of misses, from 0 on, in ten bytes: 27 for a limit outside 1 to 8, then 1 for answer bytes of another length.
 #[no_mangle]
-pub extern "C" fn spindlewren_nth(record: &[u8], n: usize, answer: &mut [u8]) -> u8
-    ensures { λ r. ⌜ Told 10 0 (itemBytes (itemOf (now («record» .entry)) n)) (now (answer .entry)) (now (answer .exit)) r ⌝ }
+pub extern "C" fn spindlewren_nth(record: &[u8], limit: usize, n: usize, answer: &mut [u8]) -> u8
+    ensures { λ r. ⌜ Limited limit 10 (itemBytes (itemOf limit (now («record» .entry)) n)) (now (answer .entry)) (now (answer .exit)) r ⌝ }
 {
+    let refusal = walk::limit_refusal(limit);
+    if refusal != 0 {
+        return refusal;
+    }
     if answer.len() != 10 {
         return 1;
     }
-    let step = walker::nth(record, n);
+    let reached = walker::nth(record, limit, n);
+    let step = reached.step;
     let item = step.item;
     put_item(answer, item);
     0

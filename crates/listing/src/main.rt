@@ -1,5 +1,6 @@
 // The listing: a line for each item of the walk over the record on standard input.
 use libc::STDOUT_FILENO;
+use walk::Begun;
 use walk::Item;
 use walk::State;
 
@@ -48,9 +49,9 @@ fn show(item: Item) -> bool {
 }
 
 // A record of n bytes has at most n items before it is done.
-fn list(record: &[u8]) {
+fn list(record: &[u8], start: State) {
     text(b"place kind code level\n");
-    let mut walk = walk::begin();
+    let mut walk = start;
     let mut left: usize = 65536;
     while left > 0 {
         let step = walk.step(record);
@@ -71,5 +72,8 @@ fn main() {
         text(b"too long\n");
         return;
     }
-    list(&bytes[..n]);
+    match walk::begin(3) {
+        Begun::Walk(start) => list(&bytes[..n], start),
+        Begun::Refused(_) => text(b"limit refused\n"),
+    }
 }

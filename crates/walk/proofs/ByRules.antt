@@ -9,7 +9,7 @@ use native.Mathlib.Omega.{arith}
 use borrow.Author.Tests.{leb-true, leb-false, ltb-true, lt-leb}
 use Rattle.frame.specs.declared.Header.{Header}
 use Rattle.octets.specs.Choice.{pick}
-use Rattle.walk.specs.Walk.{Judged, State, Item, Frame, Lost, Idle, Done, Look, fits, confirmed, live, frameAt, itemAt, keeps, lookLocked, lookHunting, look, locked, hunting}
+use Rattle.walk.specs.Walk.{Judged, Position, Item, Frame, Lost, Idle, Done, Look, fits, confirmed, live, frameAt, itemAt, keeps, lookLocked, lookHunting, look, locked, hunting}
 use Rattle.walk.specs.ItemValues.{placeOf}
 
 pub and-left : (a b : Bool) → (a && b) ≡ true → a ≡ true
@@ -20,7 +20,7 @@ pub and-right : (a b : Bool) → (a && b) ≡ true → b ≡ true
 and-right true b e = e
 and-right false b e = cc
 
-pub live-fits : (R : Judged) (s : State) → live R s ≡ true → s .place + R .period ≤ R .len
+pub live-fits : (R : Judged) (s : Position) → live R s ≡ true → s .place + R .period ≤ R .len
 unfolding live
 live-fits R s e = leb-true (s .place + R .period) (R .len) (and-left (fits R (s .place)) _ e)
 
@@ -84,13 +84,13 @@ item-not-done R p q = by-item R p (λ x b. x ≡ Done q → ⊥) (λ e w. clash 
     clash z = omega arith
 
 -- whatever holds of a look in every case of the rules
-pub by-rules : (R : Judged) (Q : State → Look → Type 0) →
+pub by-rules : (R : Judged) (Q : Position → Look → Type 0) →
     ((p k : ℕ) → keeps R p ≡ true → Q (locked p k) (record { gives = some (itemAt R p); goes = locked (p + R .period) 0 })) →
     ((p k : ℕ) → keeps R p ≡ false → k + 1 < R .limit → Q (locked p k) (record { gives = some (itemAt R p); goes = locked (p + R .period) (k + 1) })) →
     ((p k : ℕ) → keeps R p ≡ false → Q (locked p k) (record { gives = some (itemAt R p); goes = hunting (p + 1) (k + 1) })) →
     ((p k : ℕ) → confirmed R p ≡ true → Q (hunting p k) (record { gives = some (frameAt R p); goes = locked (p + R .period) 0 })) →
     ((p k : ℕ) → Q (hunting p k) (record { gives = none; goes = hunting (p + 1) k })) →
-    (s : State) → Q s (look R s)
+    (s : Position) → Q s (look R s)
 unfolding look lookLocked lookHunting
 by-rules R Q kept missed last hit passed s = go (s .place) (s .misses) (s .lock)
   where
@@ -111,16 +111,16 @@ by-rules R Q kept missed last hit passed s = go (s .place) (s .misses) (s .lock)
     go p k false = hunts p k (confirmed R p) refl
 
 -- each look is at a later place than the one before
-pub further : (R : Judged) → 0 < R .period → (s : State) → s .place < look R s .goes .place
+pub further : (R : Judged) → 0 < R .period → (s : Position) → s .place < look R s .goes .place
 further R positive = by-rules R (λ s l. s .place < l .goes .place) (λ p k e. omega arith) (λ p k e b. omega arith) (λ p k e. omega arith) (λ p k e. omega arith) (λ p k. omega arith)
 
 -- after a frame the walk is in lock, a period later, with no misses
-pub frame-locks : (R : Judged) (s : State) (q : ℕ) (h : Header) → look R s .gives ≡ some (Frame q h) → look R s .goes ≡ locked (q + R .period) 0
+pub frame-locks : (R : Judged) (s : Position) (q : ℕ) (h : Header) → look R s .gives ≡ some (Frame q h) → look R s .goes ≡ locked (q + R .period) 0
 frame-locks R s q h = by-rules R (λ s l. l .gives ≡ some (Frame q h) → l .goes ≡ locked (q + R .period) 0)
     (λ p k e f. cc (frame-keeps R p q h (cc) .0)) (λ p k e b f. cc (frame-keeps R p q h (cc) .1)) (λ p k e f. cc (frame-keeps R p q h (cc) .1)) (λ p k e f. cc) (λ p k f. cc) s
 
 -- no look hands out done
-pub never-done : (R : Judged) (s : State) (q : ℕ) → look R s .gives ≡ some (Done q) → ⊥
+pub never-done : (R : Judged) (s : Position) (q : ℕ) → look R s .gives ≡ some (Done q) → ⊥
 never-done R s q = by-rules R (λ s l. l .gives ≡ some (Done q) → ⊥)
     (λ p k e f. item-not-done R p q (cc)) (λ p k e b f. item-not-done R p q (cc)) (λ p k e f. item-not-done R p q (cc))
     (λ p k e f. let z : _≡_ {A = ℕ} 0 1 = cc in omega arith) (λ p k f. let z : _≡_ {A = ℕ} 0 1 = cc in omega arith) s

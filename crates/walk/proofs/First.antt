@@ -8,7 +8,7 @@ use native.Mathlib.Omega.{arith}
 use native.Mathlib.Nat.{zero-add, suc-add, mul-le-mul-right, le-of-mul-le-mul-right}
 use native.Mathlib.Decide.{decLe}
 use borrow.Author.Tests.{le-leb, lt-leb}
-use Rattle.walk.specs.Walk.{Judged, Fair, State, Item, frameAt, differ, confirmed, itemAt, keeps, items, locked, hunting, begin}
+use Rattle.walk.specs.Walk.{Judged, Fair, Position, Item, frameAt, differ, confirmed, itemAt, keeps, items, locked, hunting, begin}
 use Rattle.walk.specs.ItemValues.{placeOf}
 use Rattle.walk.specs.AnyJudging.{Ends, since, frames}
 use Rattle.walk.proofs.ByRules.{confirmed-stands, stands-keeps, stands-item, place-item}
@@ -63,7 +63,7 @@ module _ (R : Judged) (fair : Fair R) (a m r : ℕ) (E : Ends R a (m + r)) (limi
   abbrev promised : ℕ
   promised = a + m * R .period
 
-  abbrev Good : State → Type 0
+  abbrev Good : Position → Type 0
   Good s = since promised (items R s) ≡ frames R promised r
 
   -- a place from 6,143 bytes before the first on that keeps a lock is an intact frame's
@@ -160,7 +160,7 @@ module _ (R : Judged) (fair : Fair R) (a m r : ℕ) (E : Ends R a (m + r)) (limi
 
 -- DEMAND 3, FIRST PART, over the limit: from any state that is not past the first intact frame, if it is not in lock with its misses spent
 pub intact-from : (R : Judged) → Fair R → (a n : ℕ) → Ends R a n → R .limit < n →
-    (s : State) → s .place ≤ a → (s .lock ≡ true → s .misses < R .limit) →
+    (s : Position) → s .place ≤ a → (s .lock ≡ true → s .misses < R .limit) →
     since (a + (R .limit - 1) * R .period) (items R s) ≡ frames R (a + (R .limit - 1) * R .period) (n - (R .limit - 1))
 intact-from R fair a n E enough s h l =
     let q : R .limit - 1 + (n - (R .limit - 1)) ≡ n = omega arith in

@@ -7,12 +7,12 @@ use mathlib.Core.List.{[], _∷_}
 use mathlib.Core.Option.{none, some}
 use native.Mathlib.Omega.{arith}
 use borrow.Author.Tests.{le-leb, lt-leb, lt-ltb, le-ltb}
-use Rattle.walk.specs.Walk.{Judged, State, Look, Done, fits, confirmed, live, frameAt, itemAt, keeps, lookLocked, lookHunting, look, giving, items, stepBy, stepOf, locked, hunting}
+use Rattle.walk.specs.Walk.{Judged, Position, Look, Done, fits, confirmed, live, frameAt, itemAt, keeps, lookLocked, lookHunting, look, giving, items, stepBy, stepOf, locked, hunting}
 use Rattle.walk.proofs.Looks.{items-dead, items-live, step-dead, step-live}
 
 module _ (R : Judged) (positive : 0 < R .period) where
   -- where the walk is done
-  pub no-room : (s : State) → R .len < s .place + R .period → live R s ≡ false
+  pub no-room : (s : Position) → R .len < s .place + R .period → live R s ≡ false
   unfolding live
   no-room s h = rw (lt-leb (s .place + R .period) (R .len) h)
 
@@ -20,20 +20,20 @@ module _ (R : Judged) (positive : 0 < R .period) where
   unfolding live
   spent p k h = rw (le-leb (R .limit) k h) (and-false (fits R p))
 
-  pub items-short : (s : State) → R .len < s .place + R .period → items R s ≡ []
+  pub items-short : (s : Position) → R .len < s .place + R .period → items R s ≡ []
   items-short s h = items-dead R positive s (no-room s h)
 
-  pub step-short : (s : State) → R .len < s .place + R .period → stepOf R s ≡ record { item = Done (s .place); walk = s }
+  pub step-short : (s : Position) → R .len < s .place + R .period → stepOf R s ≡ record { item = Done (s .place); walk = s }
   step-short s h = step-dead R positive s (no-room s h)
 
   pub step-spent : (p k : ℕ) → R .limit ≤ k → stepOf R (locked p k) ≡ record { item = Done p; walk = locked p k }
   step-spent p k h = step-dead R positive (locked p k) (spent p k h)
 
   -- where it looks: from what a look is, to the items and to the step
-  items-look : (s : State) → live R s ≡ true → (l : Look) → look R s ≡ l → items R s ≡ giving (l .gives) (items R (l .goes))
+  items-look : (s : Position) → live R s ≡ true → (l : Look) → look R s ≡ l → items R s ≡ giving (l .gives) (items R (l .goes))
   items-look s e l q = items-live R positive s e ∙ rw q
 
-  step-look : (s : State) → live R s ≡ true → (l : Look) → look R s ≡ l → stepOf R s ≡ stepBy (l .gives) (l .goes) (stepOf R (l .goes))
+  step-look : (s : Position) → live R s ≡ true → (l : Look) → look R s ≡ l → stepOf R s ≡ stepBy (l .gives) (l .goes) (stepOf R (l .goes))
   step-look s e l q = step-live R positive s e ∙ rw q
 
   module _ (p k : ℕ) (room : p + R .period ≤ R .len) where

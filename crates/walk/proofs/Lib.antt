@@ -4,6 +4,7 @@ pub mod Examples
 pub mod First
 pub mod Keeping
 pub mod Laws
+pub mod Limits
 pub mod Looks
 pub mod Marks
 pub mod Misses

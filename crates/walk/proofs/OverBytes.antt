@@ -15,10 +15,11 @@ use Rattle.frame.specs.Frame.{isFsync1}
 use Rattle.frame.specs.Rules.{refusalOf, Acceptable, NullTransmission}
 use Rattle.frame.proofs.Accepting.{accepted, acceptable, null-transmission, refused-null}
 use Rattle.frame.specs.Answers.{headerFor}
-use Rattle.walk.specs.Walk.{Judged, Fair, State, Item, Frame, Lost, Idle, Done, frameAt, itemAt, items, rest, stepOf, calls, locked, begin}
+use Rattle.walk.specs.Walk.{Judged, Fair, Position, Item, Frame, Lost, Idle, Done, frameAt, itemAt, items, rest, stepOf, calls, locked, begin}
 use Rattle.walk.specs.ItemValues.{placeOf}
 use Rattle.walk.specs.AnyJudging.{Ends, since, frames, periods, Unbroken}
-use Rattle.walk.specs.Records.{part, judged, tableOf, stepWith, stepAt, callsAt}
+use Rattle.walk.specs.declared.State.{State}
+use Rattle.walk.specs.Records.{part, judged, tableOf, Allowed, within, start, stepWith, stepAt, callsAt}
 use Rattle.walk.specs.Truth.{ItemTrue}
 use Rattle.walk.specs.Demand3.{Keeping, EndsIn, UnbrokenIn, Out, outOf, frameOut, lostOut, idleOut, doneOut, outSince, framesOut, periodOut, periodsOut}
 use Rattle.walk.proofs.Looks.{rest-dead}
@@ -28,6 +29,7 @@ use Rattle.walk.proofs.First.{intact-handed-out}
 use Rattle.walk.proofs.Second.{each-period, length-periods}
 use Rattle.walk.proofs.Truth.{step-true}
 use Rattle.walk.proofs.Keeping.{keeping, kept}
+use Rattle.walk.proofs.Limits.{is-allowed, allowed-is, by-limit, step-is, step-outside}
 
 fair : (limit : ℕ) → 0 < limit → (bytes : List ℕ) → Fair (judged limit bytes)
 unfolding judged
@@ -97,10 +99,10 @@ module _ (limit : ℕ) (bytes : List ℕ) where
   abbrev with-table : Item → Out
   with-table x = record { item = x; table = tableOf bytes x }
 
-  pub calls-out : (n : ℕ) (s : State) → map outOf (callsAt limit bytes n s) ≡ map with-table (calls (judged limit bytes) n s)
-  unfolding callsAt calls stepAt stepWith
-  calls-out zero s = refl
-  calls-out (suc n) s = ap (λ (l : List Out). with-table (stepOf (judged limit bytes) s .item) ∷ l) (calls-out n (stepOf (judged limit bytes) s .walk))
+  pub calls-out : Allowed limit → (n : ℕ) (p : Position) → map outOf (callsAt bytes n (within limit p)) ≡ map with-table (calls (judged limit bytes) n p)
+  unfolding callsAt calls stepWith
+  calls-out ok zero p = refl
+  calls-out ok (suc n) p = rw (step-is bytes limit (is-allowed limit ok) p) (ap (λ (l : List Out). with-table (stepOf (judged limit bytes) p .item) ∷ l) (calls-out ok n (stepOf (judged limit bytes) p .walk)))
 
   since-out : (c : ℕ) (l : List Item) → outSince c (map with-table l) ≡ map with-table (since c l)
   unfolding outSince since
@@ -133,13 +135,13 @@ module _ (limit : ℕ) (bytes : List ℕ) where
   periods-out (suc n) p k e = ap₂ (λ (x : Out) (l : List Out). x ∷ l) (period-out p) (periods-out n (p + 6144) k e)
 
 -- ---- the first part
-module _ (limit : ℕ) (patient : 0 < limit) (bytes : List ℕ) (a n : ℕ) (E : EndsIn bytes a n) (enough : limit < n) where
+module _ (limit : ℕ) (ok : Allowed limit) (bytes : List ℕ) (a n : ℕ) (E : EndsIn bytes a n) (enough : limit < n) where
   abbrev c : ℕ
   c = a + (limit - 1) * 6144
 
   intact-items : since c (items (judged limit bytes) begin) ≡ frames (judged limit bytes) c (n - (limit - 1))
   unfolding judged
-  intact-items = intact-handed-out (judged limit bytes) (fair limit patient bytes) a n (ends limit bytes a n E) enough
+  intact-items = intact-handed-out (judged limit bytes) (fair limit (ok .0) bytes) a n (ends limit bytes a n E) enough
 
   -- the walk ends in lock behind the last of them
   rest-there : rest (judged limit bytes) begin ≡ locked (length bytes) 0
@@ -157,7 +159,7 @@ module _ (limit : ℕ) (patient : 0 < limit) (bytes : List ℕ) (a n : ℕ) (E :
 
   -- DEMAND 3, FIRST PART, over the limit m: of at least m + 1 intact frames at the end the m-th and every later one is handed out
   pub intact-out : (calls : ℕ) → length bytes ≤ calls →
-      (k : ℕ) × (0 < k) × (outSince (a + (limit - 1) * 6144) (map outOf (callsAt limit bytes calls begin)) ≡ framesOut bytes (a + (limit - 1) * 6144) (n - (limit - 1)) ++ replicate k (doneOut (length bytes)))
+      (k : ℕ) × (0 < k) × (outSince (a + (limit - 1) * 6144) (map outOf (callsAt bytes calls (start limit))) ≡ framesOut bytes (a + (limit - 1) * 6144) (n - (limit - 1)) ++ replicate k (doneOut (length bytes)))
   unfolding judged
   intact-out m h =
       let R = judged limit bytes in
@@ -167,12 +169,12 @@ module _ (limit : ℕ) (patient : 0 < limit) (bytes : List ℕ) (a n : ℕ) (E :
       let b = items-bounded R (lit< tt) begin in (
         k,
         omega (arith, b, E .whole),
-        ap (outSince c) (calls-out limit bytes m begin)
+        ap (outSince c) (calls-out limit bytes ok m begin)
             ∙ since-out limit bytes c (calls R m begin)
             ∙ ap (λ (l : List Item). map (with-table limit bytes) (since c l)) (calls-end R (lit< tt) begin m (omega arith))
             ∙ ap (map (with-table limit bytes))
             (since-join c (items R begin) (replicate k (Done (rest R begin .place)))
-            ∙ ap₂ (λ (l : List Item) (s : State). l ++ since c (replicate k (Done (s .place)))) intact-items rest-there
+            ∙ ap₂ (λ (l : List Item) (s : Position). l ++ since c (replicate k (Done (s .place)))) intact-items rest-there
             ∙ ap (λ (l : List Item). frames R c (n - (limit - 1)) ++ l) (since-done c (length bytes) k (omega (arith, E .whole))))
             ∙ frames-out limit bytes (n - (limit - 1)) c k (length bytes),
       )
@@ -180,8 +182,8 @@ module _ (limit : ℕ) (patient : 0 < limit) (bytes : List ℕ) (a n : ℕ) (E :
 -- DEMAND 3, FIRST PART: whatever damage comes before, of at least four intact frames at the end the third and every later one is handed out.
 -- Of as many calls as the record has bytes, or more, those that hand out something at the third frame's place or later hand out exactly these frames, in order, each once, with the header and table that reading gives there, and then only done.
 pub demand-3-first : (bytes : List ℕ) (a n : ℕ) → EndsIn bytes a n → 4 ≤ n → (calls : ℕ) → length bytes ≤ calls →
-    (k : ℕ) × (0 < k) × (outSince (a + 2 * 6144) (map outOf (callsAt 3 bytes calls begin)) ≡ framesOut bytes (a + 2 * 6144) (n - 2) ++ replicate k (doneOut (length bytes)))
-demand-3-first bytes a n E h = intact-out 3 (lit< tt) bytes a n E h
+    (k : ℕ) × (0 < k) × (outSince (a + 2 * 6144) (map outOf (callsAt bytes calls (start 3))) ≡ framesOut bytes (a + 2 * 6144) (n - 2) ++ replicate k (doneOut (length bytes)))
+demand-3-first bytes a n E h = intact-out 3 (lit< tt, lit< tt) bytes a n E h
 
 -- ---- the second part
 -- the period at p gives a frame exactly where it is acceptable, and an idle item exactly where it is a null transmission
@@ -198,54 +200,59 @@ unfolding periodOut
 period-refused bytes p bad =
     rw (ne-eqb (refusalOf (part bytes p)) 0 (λ z. bad (inl (acceptable (part bytes p) z))), ne-eqb (refusalOf (part bytes p)) 4 (λ z. bad (inr (null-transmission (part bytes p) z))))
 
-module _ (limit : ℕ) (patient : 0 < limit) (bytes : List ℕ) (s : State) (q : ℕ) (h : Header) (handed : stepAt limit bytes s .item ≡ Frame q h)
-    (n : ℕ) (room : q + 6144 + n * 6144 ≤ length bytes) (u : UnbrokenIn limit bytes (q + 6144) n) where
-  onward : stepAt limit bytes s .walk ≡ locked (q + 6144) 0
-  onward = subst (λ (x : Item). ItemTrue limit bytes s x (stepAt limit bytes s .walk)) handed (step-true limit bytes s) .onward
+module _ (bytes : List ℕ) (s : State) (q : ℕ) (h : Header) (handed : stepAt bytes s .item ≡ Frame q h)
+    (n : ℕ) (room : q + 6144 + n * 6144 ≤ length bytes) (u : UnbrokenIn (s .limit) bytes (q + 6144) n) where
+  -- a walk that hands out a frame has an allowed limit
+  ok : Allowed (s .limit)
+  unfolding stepWith
+  ok = by-limit (s .limit) _ (allowed-is (s .limit)) (λ e. let y = step-outside bytes s e in let z : _≡_ {A = ℕ} 0 1 = cc in absurd (omega arith))
+
+  onward : stepAt bytes s .walk ≡ within (s .limit) (locked (q + 6144) 0)
+  onward = subst (λ (x : Item). ItemTrue bytes s x (stepAt bytes s .walk)) handed (step-true bytes s) .onward
 
   -- DEMAND 3, SECOND PART, over the limit
-  pub periods-handed-out : map outOf (callsAt limit bytes n (stepAt limit bytes s .walk)) ≡ periodsOut bytes (q + 6144) n
+  pub periods-handed-out : map outOf (callsAt bytes n (stepAt bytes s .walk)) ≡ periodsOut bytes (q + 6144) n
   unfolding judged
   periods-handed-out =
-      let R = judged limit bytes in
-      let (t, e, z) = each-period R (fair limit patient bytes) n (q + 6144) room (unbroken limit bytes (q + 6144) n u) in
-      ap (λ (w : State). map outOf (callsAt limit bytes n w)) onward
-      ∙ calls-out limit bytes n (locked (q + 6144) 0)
-      ∙ ap (map (with-table limit bytes))
-      (ap (λ (m : ℕ). calls R m (locked (q + 6144) 0)) (sym (length-periods R (fair limit patient bytes) n (q + 6144)))
+      let R = judged (s .limit) bytes in
+      let (t, e, z) = each-period R (fair (s .limit) (ok .0) bytes) n (q + 6144) room (unbroken (s .limit) bytes (q + 6144) n u) in
+      ap (λ (w : State). map outOf (callsAt bytes n w)) onward
+      ∙ calls-out (s .limit) bytes ok n (locked (q + 6144) 0)
+      ∙ ap (map (with-table (s .limit) bytes))
+      (ap (λ (m : ℕ). calls R m (locked (q + 6144) 0)) (sym (length-periods R (fair (s .limit) (ok .0) bytes) n (q + 6144)))
       ∙ calls-first R (lit< tt) (locked (q + 6144) 0) (periods R (q + 6144) n) (items R t) e
       ∙ sym (append-nil (periods R (q + 6144) n)))
-      ∙ periods-out limit bytes n (q + 6144) 0 0
+      ∙ periods-out (s .limit) bytes n (q + 6144) 0 0
       ∙ append-nil (periodsOut bytes (q + 6144) n)
 
   -- and where the record has no further period, every later call hands back done
   pub periods-then-done : length bytes < q + 6144 + n * 6144 + 6144 → (m : ℕ) →
-      (e : ℕ) × (map outOf (callsAt limit bytes (n + m) (stepAt limit bytes s .walk)) ≡ periodsOut bytes (q + 6144) n ++ replicate m (doneOut e))
+      (e : ℕ) × (map outOf (callsAt bytes (n + m) (stepAt bytes s .walk)) ≡ periodsOut bytes (q + 6144) n ++ replicate m (doneOut e))
   unfolding judged
   periods-then-done end m =
-      let R = judged limit bytes in
-      let (t, e, z) = each-period R (fair limit patient bytes) n (q + 6144) room (unbroken limit bytes (q + 6144) n u) in
+      let R = judged (s .limit) bytes in
+      let (t, e, z) = each-period R (fair (s .limit) (ok .0) bytes) n (q + 6144) room (unbroken (s .limit) bytes (q + 6144) n u) in
       let i : items R (locked (q + 6144) 0) ≡ periods R (q + 6144) n = e ∙ ap (λ (l : List Item). periods R (q + 6144) n ++ l) (z end) ∙ append-nil (periods R (q + 6144) n) in
-      let l : n + m ≡ length (items R (locked (q + 6144) 0)) + m = ap (λ (k : ℕ). k + m) (sym (length-periods R (fair limit patient bytes) n (q + 6144)) ∙ ap length (sym i)) in (
+      let l : n + m ≡ length (items R (locked (q + 6144) 0)) + m = ap (λ (k : ℕ). k + m) (sym (length-periods R (fair (s .limit) (ok .0) bytes) n (q + 6144)) ∙ ap length (sym i)) in (
         rest R (locked (q + 6144) 0) .place,
-        ap (λ (w : State). map outOf (callsAt limit bytes (n + m) w)) onward
-            ∙ calls-out limit bytes (n + m) (locked (q + 6144) 0)
-            ∙ ap (map (with-table limit bytes))
+        ap (λ (w : State). map outOf (callsAt bytes (n + m) w)) onward
+            ∙ calls-out (s .limit) bytes ok (n + m) (locked (q + 6144) 0)
+            ∙ ap (map (with-table (s .limit) bytes))
             (ap (λ (k : ℕ). calls R k (locked (q + 6144) 0)) l
             ∙ calls-items R (lit< tt) (locked (q + 6144) 0) m
             ∙ ap (λ (l : List Item). l ++ replicate m (Done (rest R (locked (q + 6144) 0) .place))) i)
-            ∙ periods-out limit bytes n (q + 6144) m (rest R (locked (q + 6144) 0) .place),
+            ∙ periods-out (s .limit) bytes n (q + 6144) m (rest R (locked (q + 6144) 0) .place),
       )
 
 -- DEMAND 3, SECOND PART: in lock, one item for each period until three in a row are refused for any reason but 4 (or the record ends).
 -- After a call that hands out a frame at q, from any state, the next n calls hand out one item for each of the n periods that follow: the frame, with the header and table that reading gives there, if it is acceptable, an idle item if it is a null transmission, and a lost mark with its refusal number if it is neither.
-pub demand-3-second : (bytes : List ℕ) (s : State) (q : ℕ) (h : Header) → stepAt 3 bytes s .item ≡ Frame q h →
+pub demand-3-second : (bytes : List ℕ) (s : State) → s .limit ≡ 3 → (q : ℕ) (h : Header) → stepAt bytes s .item ≡ Frame q h →
     (n : ℕ) → q + 6144 + n * 6144 ≤ length bytes → UnbrokenIn 3 bytes (q + 6144) n →
-    map outOf (callsAt 3 bytes n (stepAt 3 bytes s .walk)) ≡ periodsOut bytes (q + 6144) n
-demand-3-second bytes s q h handed n room u = periods-handed-out 3 (lit< tt) bytes s q h handed n room u
+    map outOf (callsAt bytes n (stepAt bytes s .walk)) ≡ periodsOut bytes (q + 6144) n
+demand-3-second bytes s three q h handed n room u = periods-handed-out bytes s q h handed n room (subst (λ (m : ℕ). UnbrokenIn m bytes (q + 6144) n) (sym three) u)
 
 -- .. and where the record has no further period, every later call hands back done
-pub demand-3-second-end : (bytes : List ℕ) (s : State) (q : ℕ) (h : Header) → stepAt 3 bytes s .item ≡ Frame q h →
+pub demand-3-second-end : (bytes : List ℕ) (s : State) → s .limit ≡ 3 → (q : ℕ) (h : Header) → stepAt bytes s .item ≡ Frame q h →
     (n : ℕ) → q + 6144 + n * 6144 ≤ length bytes → UnbrokenIn 3 bytes (q + 6144) n → length bytes < q + 6144 + n * 6144 + 6144 → (m : ℕ) →
-    (e : ℕ) × (map outOf (callsAt 3 bytes (n + m) (stepAt 3 bytes s .walk)) ≡ periodsOut bytes (q + 6144) n ++ replicate m (doneOut e))
-demand-3-second-end bytes s q h handed n room u = periods-then-done 3 (lit< tt) bytes s q h handed n room u
+    (e : ℕ) × (map outOf (callsAt bytes (n + m) (stepAt bytes s .walk)) ≡ periodsOut bytes (q + 6144) n ++ replicate m (doneOut e))
+demand-3-second-end bytes s three q h handed n room u = periods-then-done bytes s q h handed n room (subst (λ (m : ℕ). UnbrokenIn m bytes (q + 6144) n) (sym three) u)

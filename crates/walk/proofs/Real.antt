@@ -17,8 +17,7 @@ use Rattle.frame.specs.Writing.{Bytes}
 use Rattle.frame.proofs.Places.{OneFsync}
 use Rattle.frame.proofs.Accepting.{acceptable}
 use Rattle.frame.specs.Answers.{headerFor}
-use Rattle.walk.specs.Walk.{begin}
-use Rattle.walk.specs.Records.{part, callsAt}
+use Rattle.walk.specs.Records.{part, start, callsAt}
 use Rattle.walk.specs.Demand3.{Keeping, EndsIn, outOf, outSince, framesOut, doneOut}
 use Rattle.walk.proofs.ByRules.{and-left, and-right}
 use Rattle.walk.proofs.OverBytes.{demand-3-first}
@@ -175,7 +174,7 @@ module _ (junk : List ℕ) (d : Damaged junk) (b : Bool) (n : ℕ) where
 
   -- and so of four or more of these frames the third and every later one are handed out
   pub real-handed-out : 4 ≤ n → (calls : ℕ) → length (junk ++ inTurn b n) ≤ calls →
-      (k : ℕ) × (0 < k) × (outSince (length junk + 2 * 6144) (map outOf (callsAt 3 (junk ++ inTurn b n) calls begin)) ≡ framesOut (junk ++ inTurn b n) (length junk + 2 * 6144) (n - 2) ++ replicate k (doneOut (length (junk ++ inTurn b n))))
+      (k : ℕ) × (0 < k) × (outSince (length junk + 2 * 6144) (map outOf (callsAt (junk ++ inTurn b n) calls (start 3))) ≡ framesOut (junk ++ inTurn b n) (length junk + 2 * 6144) (n - 2) ++ replicate k (doneOut (length (junk ++ inTurn b n))))
   real-handed-out h = demand-3-first bytes (length junk) n real-ends h
 
 -- there are such damaged bytes, as many as one likes

@@ -7,7 +7,7 @@ use mathlib.Core.List.{List, [], _∷_, _++_}
 use native.Mathlib.Omega.{arith}
 use native.Mathlib.Decide.{decLe}
 use lib.ListN.{length}
-use Rattle.walk.specs.Walk.{Judged, Fair, State, Item, itemAt, keeps, items, locked, hunting}
+use Rattle.walk.specs.Walk.{Judged, Fair, Position, Item, itemAt, keeps, items, locked, hunting}
 use Rattle.walk.specs.AnyJudging.{periods, Unbroken}
 use Rattle.walk.proofs.ByRules.{unfollowed}
 use Rattle.walk.proofs.Laws.{items-short, items-passed, items-kept, items-missed, items-last}
@@ -18,7 +18,7 @@ Soon R p l n = l < n → (j : ℕ) × (j < l) × (keeps R (p + j * R .period) �
 
 module _ (R : Judged) (fair : Fair R) where
   abbrev Kept : ℕ → ℕ → ℕ → Type 0
-  Kept n p k = (t : State) × (items R (locked p k) ≡ periods R p n ++ items R t) × (R .len < p + n * R .period + R .period → items R t ≡ [])
+  Kept n p k = (t : Position) × (items R (locked p k) ≡ periods R p n ++ items R t) × (R .len < p + n * R .period + R .period → items R t ≡ [])
 
   abbrev Keeps : ℕ → Type 0
   Keeps n = (p k : ℕ) → k < R .limit → p + n * R .period ≤ R .len → Soon R p (R .limit - k) n → Unbroken R p n → Kept n p k
@@ -56,7 +56,7 @@ module _ (R : Judged) (fair : Fair R) where
 
   -- one more period
   join : (n p k : ℕ) (l : List Item) → items R (locked p k) ≡ itemAt R p ∷ l →
-      (t : State) × (l ≡ periods R (p + R .period) n ++ items R t) × (R .len < p + R .period + n * R .period + R .period → items R t ≡ []) → Kept (suc n) p k
+      (t : Position) × (l ≡ periods R (p + R .period) n ++ items R t) × (R .len < p + R .period + n * R .period + R .period → items R t ≡ []) → Kept (suc n) p k
   unfolding periods
   join n p k l e (t, h, z) = (t, rw (e, h), λ b. z (omega arith))
 
@@ -88,7 +88,7 @@ module _ (R : Judged) (fair : Fair R) where
   -- DEMAND 3, SECOND PART, over the limit, with no supposition on the record: in lock at p with no misses the walk hands out one item for each of the next n periods,
   -- as far as the record has them and no `limit` in a row before the last of them are refused; and nothing more, where the record has no further period
   pub each-period : (n p : ℕ) → p + n * R .period ≤ R .len → Unbroken R p n →
-      (t : State) × (items R (locked p 0) ≡ periods R p n ++ items R t) × (R .len < p + n * R .period + R .period → items R t ≡ [])
+      (t : Position) × (items R (locked p 0) ≡ periods R p n ++ items R t) × (R .len < p + n * R .period + R .period → items R t ≡ [])
   each-period n p room u = every n p 0 (fair .patient) room (soon-first n p u) u
 
   pub length-periods : (n p : ℕ) → length (periods R p n) ≡ n

@@ -17,22 +17,21 @@ use Rattle.frame.specs.declared.Reading.{Reading}
 use Rattle.frame.specs.Rules.{refusalOf}
 use Rattle.frame.specs.Answers.{Reads}
 use Rattle.reading.proofs.Answered.{got-header, got-table, got-refused, got-nonzero}
-use Rattle.walk.specs.declared.State.{State}
-use Rattle.walk.specs.declared.Step.{Step}
+use Rattle.walk.specs.declared.Position.{Position}
+use Rattle.walk.specs.declared.Moved.{Moved}
 use Rattle.walk.specs.Walk.{Item, Frame, Lost, Idle, Done, Stepped, differ, confirmed, itemAt, keeps, stepOf, hunting, locked}
-use Rattle.walk.specs.Records.{part, judged, fsync1At, frameIn, tableOf, stepWith, stepAt}
-use Rattle.walk.specs.Truth.{Over}
-use Rattle.walk.specs.StepClauses.{NoneStands}
+use Rattle.walk.specs.Records.{part, judged, fsync1At, frameIn, tableOf}
+use Rattle.walk.specs.StepClauses.{NoneStands, Spent, movedWith, movedAt}
 use Rattle.walk.proofs.ByRules.{confirmed-stands, not-standing, unfollowed, stands-keeps, stands-item}
 use Rattle.walk.proofs.Laws.{step-short, step-spent, step-kept, step-missed, step-last, step-confirmed, step-passed}
 
 pub part-is : (bytes : List ℕ) (p : ℕ) → take (p + 6144 - p) (drop p bytes) ≡ part bytes p
 part-is bytes p = ap (λ (n : ℕ). take n (drop p bytes)) (add-sub-cancel-left p 6144)
 
-pub as-locked : (s : State) → s .lock ≡ true → locked (s .place) (s .misses) ≡ s
+pub as-locked : (s : Position) → s .lock ≡ true → locked (s .place) (s .misses) ≡ s
 as-locked s e = λ i. record { place = s .place; misses = s .misses; lock = sym e i }
 
-pub as-hunting : (s : State) → s .lock ≡ false → hunting (s .place) (s .misses) ≡ s
+pub as-hunting : (s : Position) → s .lock ≡ false → hunting (s .place) (s .misses) ≡ s
 as-hunting s e = λ i. record { place = s .place; misses = s .misses; lock = sym e i }
 
 -- the period at p is refused
@@ -52,55 +51,55 @@ module _ (limit : ℕ) (bytes : List ℕ) (p n : ℕ) (e : n ≡ refusalOf (part
 
 module _ (limit : ℕ) (bytes : List ℕ) where
   -- the step over a record, from the walk's step
-  as-step : (s : State) (x : Item) (t : State) → stepOf (judged limit bytes) s ≡ record { item = x; walk = t } → stepWith bytes x t ≡ stepAt limit bytes s
-  unfolding stepAt
-  as-step s x t e = ap (λ (r : Stepped). stepWith bytes (r .item) (r .walk)) (sym e)
+  as-step : (s : Position) (x : Item) (t : Position) → stepOf (judged limit bytes) s ≡ record { item = x; walk = t } → movedWith bytes x t ≡ movedAt limit bytes s
+  unfolding movedAt
+  as-step s x t e = ap (λ (r : Stepped). movedWith bytes (r .item) (r .walk)) (sym e)
 
   -- where the walk s can go no further
-  spent : (s : State) → s .lock ≡ true → limit ≤ s .misses → stepWith bytes (Done (s .place)) s ≡ stepAt limit bytes s
+  spent : (s : Position) → s .lock ≡ true → limit ≤ s .misses → movedWith bytes (Done (s .place)) s ≡ movedAt limit bytes s
   unfolding judged
   spent s l h =
-      subst (λ (t : State). stepWith bytes (Done (t .place)) t ≡ stepAt limit bytes t) (as-locked s l)
+      subst (λ (t : Position). movedWith bytes (Done (t .place)) t ≡ movedAt limit bytes t) (as-locked s l)
       (as-step (locked (s .place) (s .misses)) (Done (s .place)) (locked (s .place) (s .misses)) (step-spent (judged limit bytes) (lit< tt) (s .place) (s .misses) h))
 
-  pub over-done : (s : State) → Over limit bytes s → (w : State) → w ≡ s → stepWith bytes (Done (w .place)) w ≡ stepAt limit bytes s
+  pub over-done : (s : Position) → Spent limit bytes s → (w : Position) → w ≡ s → movedWith bytes (Done (w .place)) w ≡ movedAt limit bytes s
   unfolding judged
-  over-done s (inl h) w e = ap (λ (t : State). stepWith bytes (Done (t .place)) t) e ∙ as-step s (Done (s .place)) s (step-short (judged limit bytes) (lit< tt) s h)
-  over-done s (inr (l, h)) w e = ap (λ (t : State). stepWith bytes (Done (t .place)) t) e ∙ spent s l h
+  over-done s (inl h) w e = ap (λ (t : Position). movedWith bytes (Done (t .place)) t) e ∙ as-step s (Done (s .place)) s (step-short (judged limit bytes) (lit< tt) s h)
+  over-done s (inr (l, h)) w e = ap (λ (t : Position). movedWith bytes (Done (t .place)) t) e ∙ spent s l h
 
   module _ (p k : ℕ) where
     module _ (room : p + 6144 ≤ length bytes) where
       -- from the item and the walk of the walk's own step
-      to : (x : Item) (t : State) → stepOf (judged limit bytes) (locked p k) ≡ record { item = itemAt (judged limit bytes) p; walk = t } → itemAt (judged limit bytes) p ≡ x → (w : State) → w ≡ t → stepWith bytes x w ≡ stepAt limit bytes (locked p k)
-      to x t e i w q = ap (stepWith bytes x) q ∙ as-step (locked p k) x t (e ∙ ap (λ (y : Item). record { item = y; walk = t }) i)
+      to : (x : Item) (t : Position) → stepOf (judged limit bytes) (locked p k) ≡ record { item = itemAt (judged limit bytes) p; walk = t } → itemAt (judged limit bytes) p ≡ x → (w : Position) → w ≡ t → movedWith bytes x w ≡ movedAt limit bytes (locked p k)
+      to x t e i w q = ap (movedWith bytes x) q ∙ as-step (locked p k) x t (e ∙ ap (λ (y : Item). record { item = y; walk = t }) i)
 
-      pub lock-stands : k < limit → refusalOf (part bytes p) ≡ 0 → stepWith bytes (frameIn bytes p) (locked (p + 6144) 0) ≡ stepAt limit bytes (locked p k)
+      pub lock-stands : k < limit → refusalOf (part bytes p) ≡ 0 → movedWith bytes (frameIn bytes p) (locked (p + 6144) 0) ≡ movedAt limit bytes (locked p k)
       unfolding judged
       lock-stands h e =
           let y : judged limit bytes .stands p ≡ true = eq-eqb (refusalOf (part bytes p)) 0 e in
           to (frameIn bytes p) (locked (p + 6144) 0) (step-kept (judged limit bytes) (lit< tt) p k room h (stands-keeps (judged limit bytes) p y)) (stands-item (judged limit bytes) p y) _ refl
 
-      pub lock-null : k < limit → refusalOf (part bytes p) ≡ 4 → (w : State) → w ≡ locked (p + 6144) 0 → stepWith bytes (Idle p) w ≡ stepAt limit bytes (locked p k)
+      pub lock-null : k < limit → refusalOf (part bytes p) ≡ 4 → (w : Position) → w ≡ locked (p + 6144) 0 → movedWith bytes (Idle p) w ≡ movedAt limit bytes (locked p k)
       unfolding judged itemAt keeps
       lock-null h e w q =
           to (Idle p) (locked (p + 6144) 0) (step-kept (judged limit bytes) (lit< tt) p k room h (rw e)) (rw e) w q
 
       module _ (n : ℕ) (e : n ≡ refusalOf (part bytes p)) (z : n ≡ 0 → ⊥) (c : n ≡ 4 → ⊥) where
-        pub lock-missed : k + 1 < limit → (w : State) → w ≡ locked (p + 6144) (k + 1) → stepWith bytes (Lost p n) w ≡ stepAt limit bytes (locked p k)
+        pub lock-missed : k + 1 < limit → (w : Position) → w ≡ locked (p + 6144) (k + 1) → movedWith bytes (Lost p n) w ≡ movedAt limit bytes (locked p k)
         unfolding judged
         lock-missed h = to (Lost p n) (locked (p + 6144) (k + 1)) (step-missed (judged limit bytes) (lit< tt) p k room h (refused-misses limit bytes p n e z c)) (refused-lost limit bytes p n e z c)
 
-        pub lock-last : k + 1 ≡ limit → (w : State) → w ≡ hunting (p + 1) (k + 1) → stepWith bytes (Lost p n) w ≡ stepAt limit bytes (locked p k)
+        pub lock-last : k + 1 ≡ limit → (w : Position) → w ≡ hunting (p + 1) (k + 1) → movedWith bytes (Lost p n) w ≡ movedAt limit bytes (locked p k)
         unfolding judged
         lock-last h = to (Lost p n) (hunting (p + 1) (k + 1)) (step-last (judged limit bytes) (lit< tt) p k room h (refused-misses limit bytes p n e z c)) (refused-lost limit bytes p n e z c)
 
-      pub hunt-confirmed : confirmed (judged limit bytes) p ≡ true → stepWith bytes (frameIn bytes p) (locked (p + 6144) 0) ≡ stepAt limit bytes (hunting p k)
+      pub hunt-confirmed : confirmed (judged limit bytes) p ≡ true → movedWith bytes (frameIn bytes p) (locked (p + 6144) 0) ≡ movedAt limit bytes (hunting p k)
       unfolding judged
       hunt-confirmed e = as-step (hunting p k) (frameIn bytes p) (locked (p + 6144) 0) (step-confirmed (judged limit bytes) (lit< tt) p k room e)
 
-      hunt-on : confirmed (judged limit bytes) p ≡ false → stepAt limit bytes (hunting p k) ≡ stepAt limit bytes (hunting (p + 1) k)
-      unfolding judged stepAt
-      hunt-on e = ap (λ (r : Stepped). stepWith bytes (r .item) (r .walk)) (step-passed (judged limit bytes) (lit< tt) p k room e)
+      hunt-on : confirmed (judged limit bytes) p ≡ false → movedAt limit bytes (hunting p k) ≡ movedAt limit bytes (hunting (p + 1) k)
+      unfolding judged movedAt
+      hunt-on e = ap (λ (r : Stepped). movedWith bytes (r .item) (r .walk)) (step-passed (judged limit bytes) (lit< tt) p k room e)
 
 -- ---- what confirms a place
 module _ (limit : ℕ) (bytes : List ℕ) (p : ℕ) where
@@ -154,13 +153,13 @@ module _ (bytes : List ℕ) where
 
 -- from a and from b the hunt hands back the same
 abbrev pub Same : List ℕ → ℕ → ℕ → Type 0
-Same bytes a b = (limit k : ℕ) → stepAt limit bytes (hunting a k) ≡ stepAt limit bytes (hunting b k)
+Same bytes a b = (limit k : ℕ) → movedAt limit bytes (hunting a k) ≡ movedAt limit bytes (hunting b k)
 
 pub unconfirmed-passed : (bytes : List ℕ) (p : ℕ) → p + 6144 ≤ length bytes → ((limit : ℕ) → confirmed (judged limit bytes) p ≡ false) → Same bytes p (p + 1)
 unconfirmed-passed bytes p room e limit k = hunt-on limit bytes p k room (e limit)
 
 past-in : (bytes : List ℕ) (n a b : ℕ) → b ≡ a + n → NoneStands bytes a b → Same bytes a b
-past-in bytes zero a b e m limit k = ap (λ (p : ℕ). stepAt limit bytes (hunting p k)) (let q : a ≡ b = omega arith in q)
+past-in bytes zero a b e m limit k = ap (λ (p : ℕ). movedAt limit bytes (hunting p k)) (let q : a ≡ b = omega arith in q)
 past-in bytes (suc n) a b e m limit k =
     let bad = m .refused a (omega arith) (omega arith) in
     unconfirmed-passed bytes a (m .room a (omega arith) (omega arith)) (λ l. sym (unconfirmed l bytes a (refusalOf (part bytes a)) refl bad)) limit k
@@ -171,13 +170,13 @@ pub past : (bytes : List ℕ) {a b : ℕ} → NoneStands bytes a b → Same byte
 past bytes {a} {b} m = past-in bytes (b - a) a b (omega (arith, m .ahead)) m
 
 -- ---- a frame that reading accepted
-pub frame-read : (bytes : List ℕ) (p : ℕ) (r : Reading) (h : Header) (w s : State) → Reads (part bytes p) r → r .answer ≡ Accepted h → w ≡ s
-    → _≡_ {A = Step} (record { item = Frame p h; table = r .table; walk = w }) (stepWith bytes (frameIn bytes p) s)
-unfolding stepWith tableOf
+pub frame-read : (bytes : List ℕ) (p : ℕ) (r : Reading) (h : Header) (w s : Position) → Reads (part bytes p) r → r .answer ≡ Accepted h → w ≡ s
+    → _≡_ {A = Moved} (record { item = Frame p h; table = r .table; position = w }) (movedWith bytes (frameIn bytes p) s)
+unfolding movedWith tableOf
 frame-read bytes p r h w s reads e q =
     let a = got-header (part bytes p) r reads h e in
     let b = got-table (part bytes p) r reads h e in
-    λ i. record { item = Frame p (a i); table = b i; walk = q i }
+    λ i. record { item = Frame p (a i); table = b i; position = q i }
 
 pub not-refused : (bytes : List ℕ) (p : ℕ) (r : Reading) (n : ℕ) → Reads (part bytes p) r → r .answer ≡ Refused n → refusalOf (part bytes p) ≡ 0 → ⊥
 not-refused bytes p r n reads e z = got-nonzero (part bytes p) r reads n e (got-refused (part bytes p) r reads n e ∙ z)

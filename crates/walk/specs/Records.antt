@@ -1,19 +1,23 @@
 -- The walk over a record of bytes: its places are judged by the reading, and its items hold what the reading gives there.
 -- Assumes nothing.
-use mathlib.Core.Bool.{Bool}
+use mathlib.Core.Bool.{Bool, not, _&&_}
 use mathlib.Core.List.{List, [], _∷_}
-use Prim.Native.Nat.{ℕ, zero, suc}
-use lib.Dec.{eqb}
+use Prim.Native.Nat.{ℕ, zero, suc, _≤_}
+use lib.Dec.{eqb, leb}
 use lib.ListN.{length, take, drop}
 use Rattle.frame.specs.declared.Stream.{Stream}
 use Rattle.frame.specs.Frame.{isFsync1, streamsOf}
-use Rattle.frame.specs.Rules.{refusalOf}
+use Rattle.frame.specs.Rules.{_when_, first, refusalOf}
+use Rattle.octets.specs.Choice.{pick}
 use Rattle.frame.specs.Answers.{tableBy, headerFor}
 use Rattle.walk.specs.declared.Item.{Item}
 use Rattle.walk.specs.declared.Item.the-variants.{Frame, Lost, Idle, Done}
+use Rattle.walk.specs.declared.Begun.{Begun}
+use Rattle.walk.specs.declared.Begun.the-variants.{Walk, Refused}
+use Rattle.walk.specs.declared.Position.{Position}
 use Rattle.walk.specs.declared.State.{State}
 use Rattle.walk.specs.declared.Step.{Step}
-use Rattle.walk.specs.Walk.{Judged, stepOf}
+use Rattle.walk.specs.Walk.{Judged, begin, stepOf}
 
 -- "the reading gets that part of the record itself"
 abbrev pub part : List ℕ → ℕ → List ℕ
@@ -48,20 +52,47 @@ tableOf bytes (Lost p n) = tableBy []
 tableOf bytes (Idle p) = tableBy []
 tableOf bytes (Done p) = tableBy []
 
+-- A WALK'S STATE: its limit of misses, fixed when it begins, and its position in the record
+
+-- "a number from 1 to 8"
+abbrev pub Allowed : ℕ → Type 0
+Allowed m = (1 ≤ m) × (m ≤ 8)
+
+unfoldable pub allowed : ℕ → Bool
+allowed m = leb 1 m && leb m 8
+
+-- "27, limit outside 1 to 8"
+unfoldable pub limitRefusalOf : ℕ → ℕ
+limitRefusalOf m = first ((27 when not (allowed m)) ∷ [])
+
+abbrev pub within : ℕ → Position → State
+within m p = record { limit = m; position = p }
+
+-- the walk at its beginning
+abbrev pub start : ℕ → State
+start m = within m begin
+
+-- what beginning a walk with limit m hands back
+unfoldable pub begunWith : ℕ → Begun
+begunWith m = pick (allowed m) (Walk (start m)) (Refused (limitRefusalOf m))
+
 -- what a step hands back: the item, its table, the advanced walk
 unfoldable pub stepWith : List ℕ → Item → State → Step
 stepWith bytes x s = record { item = x; table = tableOf bytes x; walk = s }
 
--- the step over a record, with a limit of misses
-unfoldable pub stepAt : ℕ → List ℕ → State → Step
-stepAt limit bytes s = stepWith bytes (stepOf (judged limit bytes) s .item) (stepOf (judged limit bytes) s .walk)
+-- the step over a record, by the walk's rules with its own limit; a walk whose limit is outside 1 to 8 is done where it is
+unfoldable pub stepAt : List ℕ → State → Step
+stepAt bytes s =
+    pick (allowed (s .limit))
+    (stepWith bytes (stepOf (judged (s .limit) bytes) (s .position) .item) (within (s .limit) (stepOf (judged (s .limit) bytes) (s .position) .walk)))
+    (stepWith bytes (Done (s .position .place)) s)
 
 -- what n calls of the step hand back, one after another: each goes on from the walk that the call before it handed back
-unfoldable pub callsAt : ℕ → List ℕ → ℕ → State → List Step
-callsAt limit bytes zero s = []
-callsAt limit bytes (suc n) s = stepAt limit bytes s ∷ callsAt limit bytes n (stepAt limit bytes s .walk)
+unfoldable pub callsAt : List ℕ → ℕ → State → List Step
+callsAt bytes zero s = []
+callsAt bytes (suc n) s = stepAt bytes s ∷ callsAt bytes n (stepAt bytes s .walk)
 
 -- the state that n calls, one after another, leave
-unfoldable pub stateAfter : ℕ → List ℕ → ℕ → State → State
-stateAfter limit bytes zero s = s
-stateAfter limit bytes (suc n) s = stateAfter limit bytes n (stepAt limit bytes s .walk)
+unfoldable pub stateAfter : List ℕ → ℕ → State → State
+stateAfter bytes zero s = s
+stateAfter bytes (suc n) s = stateAfter bytes n (stepAt bytes s .walk)

@@ -15,21 +15,21 @@ use Rattle.walk.specs.declared.Item.the-variants.{Frame, Lost, Idle, Don
 use Rattle.walk.specs.declared.State.{State}
 use Rattle.walk.specs.declared.Step.{Step}
 use Rattle.walk.specs.Walk.{locked}
-use Rattle.walk.specs.Records.{part}
+use Rattle.walk.specs.Records.{part, Allowed, within}
 use Rattle.walk.specs.Demand3.{Keeping}
 
--- a frame with the header h is handed out at p, and the walk t goes on
-pub record FrameTrue (bytes : List ℕ) (p : ℕ) (h : Header) (t : State) : Type 0 where
+-- a frame with the header h is handed out at p, and the walk t, with limit m, goes on
+pub record FrameTrue (m : ℕ) (bytes : List ℕ) (p : ℕ) (h : Header) (t : State) : Type 0 where
   pub fits : p + 6144 ≤ length bytes
   pub acceptable : Acceptable (part bytes p)
   pub header : h ≡ headerFor (part bytes p)
-  pub onward : t ≡ locked (p + 6144) 0
+  pub onward : t ≡ within m (locked (p + 6144) 0)
 
 -- an idle item is handed out at p, and the walk t goes on
-pub record IdleTrue (bytes : List ℕ) (p : ℕ) (t : State) : Type 0 where
+pub record IdleTrue (m : ℕ) (bytes : List ℕ) (p : ℕ) (t : State) : Type 0 where
   pub fits : p + 6144 ≤ length bytes
   pub null : NullTransmission (part bytes p)
-  pub onward : t ≡ locked (p + 6144) 0
+  pub onward : t ≡ within m (locked (p + 6144) 0)
 
 -- a lost mark with the number n is handed out at p
 pub record LostTrue (bytes : List ℕ) (p n : ℕ) : Type 0 where
@@ -38,34 +38,34 @@ pub record LostTrue (bytes : List ℕ) (p n : ℕ) : Type 0 where
   pub refused : n ≡ 0 → ⊥
   pub carrying : n ≡ 4 → ⊥
 
--- the walk s can go no further: from its place on a period does not exist, or it is in lock with its misses spent
-abbrev pub Over : ℕ → List ℕ → State → Type 0
-Over limit bytes s = (length bytes < s .place + 6144) ⊎ ((s .lock ≡ true) × (limit ≤ s .misses))
+-- the walk s can go no further: its limit is outside 1 to 8, from its place on a period does not exist, or it is in lock with its misses spent
+abbrev pub Over : List ℕ → State → Type 0
+Over bytes s = (Allowed (s .limit) → ⊥) ⊎ ((length bytes < s .position .place + 6144) ⊎ ((s .position .lock ≡ true) × (s .limit ≤ s .position .misses)))
 
 -- from the walk s done is said at p, and the walk t is handed back
-pub record DoneTrue (limit : ℕ) (bytes : List ℕ) (s : State) (p : ℕ) (t : State) : Type 0 where
-  pub place : t .place ≡ p
-  pub over : Over limit bytes t
+pub record DoneTrue (bytes : List ℕ) (s : State) (p : ℕ) (t : State) : Type 0 where
+  pub place : t .position .place ≡ p
+  pub over : Over bytes t
   -- the walk is as it was, or hunted on to the first place from which no period exists
   pub first : (t ≡ s) ⊎ (p + 6143 ≡ length bytes)
 
 -- the item x and the walk t, handed back by a step from s
-abbrev pub ItemTrue : ℕ → List ℕ → State → Item → State → Type 0
-ItemTrue limit bytes s (Frame p h) t = FrameTrue bytes p h t
-ItemTrue limit bytes s (Lost p n) t = LostTrue bytes p n
-ItemTrue limit bytes s (Idle p) t = IdleTrue bytes p t
-ItemTrue limit bytes s (Done p) t = DoneTrue limit bytes s p t
+abbrev pub ItemTrue : List ℕ → State → Item → State → Type 0
+ItemTrue bytes s (Frame p h) t = FrameTrue (s .limit) bytes p h t
+ItemTrue bytes s (Lost p n) t = LostTrue bytes p n
+ItemTrue bytes s (Idle p) t = IdleTrue (s .limit) bytes p t
+ItemTrue bytes s (Done p) t = DoneTrue bytes s p t
 
-abbrev pub StepTrue : ℕ → List ℕ → State → Step → Type 0
-StepTrue limit bytes s r = ItemTrue limit bytes s (r .item) (r .walk)
+abbrev pub StepTrue : List ℕ → State → Step → Type 0
+StepTrue bytes s r = ItemTrue bytes s (r .item) (r .walk)
 
 -- WHAT THE MISSES MEAN, in lock: fewer than the limit, they are the refusals in a row, for any reason but 4, since the last place with a frame or an idle item
-pub record MissesRow (limit : ℕ) (bytes : List ℕ) (s : State) : Type 0 where
-  pub few : s .misses < limit
+pub record MissesRow (bytes : List ℕ) (s : State) : Type 0 where
+  pub few : s .position .misses < s .limit
   pub last : ℕ
   pub kept : Keeping (part bytes last)
-  pub missed : (i : ℕ) → i < s .misses → Keeping (part bytes (last + suc i * 6144)) → ⊥
-  pub place : s .place ≡ last + suc (s .misses) * 6144
+  pub missed : (i : ℕ) → i < s .position .misses → Keeping (part bytes (last + suc i * 6144)) → ⊥
+  pub place : s .position .place ≡ last + suc (s .position .misses) * 6144
 
 -- .. and of what has been handed out, hunting too: the lost marks since the last frame or idle item
 abbrev pub missesAfter : ℕ → Item → ℕ

@@ -9,7 +9,7 @@ use Rattle.octets.specs.Choice.{pick}
 use Rattle.frame.specs.declared.Header.{Header}
 pub use Rattle.walk.specs.declared.Item.{Item}
 pub use Rattle.walk.specs.declared.Item.the-variants.{Frame, Lost, Idle, Done}
-pub use Rattle.walk.specs.declared.State.{State}
+pub use Rattle.walk.specs.declared.Position.{Position}
 
 -- What the walk goes by: whether a place stands, whether it reads as a null transmission, its sync word, the header that its reading gives, its refusal number. They are asked only of places whose `period` bytes exist.
 pub record Judged : Type 0 where
@@ -30,24 +30,24 @@ pub record Fair (R : Judged) : Type 0 where
 -- What comes of looking at one place: what is handed out, if anything, and where the walk goes.
 pub record Look : Type 0 where
   pub gives : Option Item
-  pub goes : State
+  pub goes : Position
 
 -- What a step hands back: the item and the advanced walk.
 pub record Stepped : Type 0 where
   pub item : Item
-  pub walk : State
+  pub walk : Position
 
 abbrev pub differ : Bool → Bool → Bool
 differ true b = not b
 differ false b = b
 
-abbrev pub hunting : ℕ → ℕ → State
+abbrev pub hunting : ℕ → ℕ → Position
 hunting p k = record { place = p; misses = k; lock = false }
 
-abbrev pub locked : ℕ → ℕ → State
+abbrev pub locked : ℕ → ℕ → Position
 locked p k = record { place = p; misses = k; lock = true }
 
-abbrev pub begin : State
+abbrev pub begin : Position
 begin = hunting 0 0
 
 -- THE RULES
@@ -61,7 +61,7 @@ unfoldable pub confirmed : Judged → ℕ → Bool
 confirmed R p = R .stands p && (fits R (p + R .period) && (R .stands (p + R .period) && differ (R .sync p) (R .sync (p + R .period))))
 
 -- the walk has a place to look at; if not, it is done
-unfoldable pub live : Judged → State → Bool
+unfoldable pub live : Judged → Position → Bool
 live R s = fits R (s .place) && not (s .lock && leb (R .limit) (s .misses))
 
 -- the frame that stands at p
@@ -91,22 +91,22 @@ lookHunting R p k =
     (record { gives = some (frameAt R p); goes = locked (p + R .period) 0 })
     (record { gives = none; goes = hunting (p + 1) k })
 
-unfoldable pub look : Judged → State → Look
+unfoldable pub look : Judged → Position → Look
 look R s = pick (s .lock) (lookLocked R (s .place) (s .misses)) (lookHunting R (s .place) (s .misses))
 
 -- THE WALK: nothing below here knows the rules
 
 -- how many places are left, from the state's own place on
-unfoldable pub left : Judged → State → ℕ
+unfoldable pub left : Judged → Position → ℕ
 left R s = suc (R .len) - (s .place + R .period)
 
 -- the looks of a walk, at most n of them: the states in which it looks at a place
-unfoldable pub looksIn : Judged → ℕ → State → List State
+unfoldable pub looksIn : Judged → ℕ → Position → List Position
 looksIn R zero s = []
 looksIn R (suc n) s = elim (live R s) [ true ↦ s ∷ looksIn R n (look R s .goes) | false ↦ [] ]
 
 -- all the looks of the walk from s on: no walk looks more often than there are places left
-unfoldable pub looks : Judged → State → List State
+unfoldable pub looks : Judged → Position → List Position
 looks R s = looksIn R (left R s) s
 
 -- what looks hand out
@@ -114,35 +114,35 @@ unfoldable pub giving : Option Item → List Item → List Item
 giving none l = l
 giving (some x) l = x ∷ l
 
-unfoldable pub itemsOf : Judged → List State → List Item
+unfoldable pub itemsOf : Judged → List Position → List Item
 itemsOf R [] = []
 itemsOf R (s ∷ l) = giving (look R s .gives) (itemsOf R l)
 
 -- what the walk from s on hands out, but for done
-unfoldable pub items : Judged → State → List Item
+unfoldable pub items : Judged → Position → List Item
 items R s = itemsOf R (looks R s)
 
 -- the state in which the walk from s on is done
-unfoldable pub restIn : Judged → State → List State → State
+unfoldable pub restIn : Judged → Position → List Position → Position
 restIn R s [] = s
 restIn R s (t ∷ l) = restIn R (look R t .goes) l
 
-unfoldable pub rest : Judged → State → State
+unfoldable pub rest : Judged → Position → Position
 rest R s = restIn R s (looks R s)
 
 -- one step: on to the first look that hands out an item, and done where there is none
-unfoldable pub stepBy : Option Item → State → Stepped → Stepped
+unfoldable pub stepBy : Option Item → Position → Stepped → Stepped
 stepBy none s later = later
 stepBy (some x) s later = record { item = x; walk = s }
 
-unfoldable pub stepIn : Judged → State → List State → Stepped
+unfoldable pub stepIn : Judged → Position → List Position → Stepped
 stepIn R s [] = record { item = Done (s .place); walk = s }
 stepIn R s (t ∷ l) = stepBy (look R t .gives) (look R t .goes) (stepIn R (look R t .goes) l)
 
-unfoldable pub stepOf : Judged → State → Stepped
+unfoldable pub stepOf : Judged → Position → Stepped
 stepOf R s = stepIn R s (looks R s)
 
 -- what n calls of the step hand back, one after another
-unfoldable pub calls : Judged → ℕ → State → List Item
+unfoldable pub calls : Judged → ℕ → Position → List Item
 calls R zero s = []
 calls R (suc n) s = stepOf R s .item ∷ calls R n (stepOf R s .walk)

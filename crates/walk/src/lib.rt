@@ -7,18 +7,30 @@ ghost use lib.ListN.{length};
 ghost use Rattle.frame.specs.Rules.{refusalOf};
 ghost use Rattle.frame.specs.Answers.{Reads};
 ghost use Rattle.walk.specs.Walk.{Lost, Idle, Done, confirmed, locked, hunting};
-ghost use Rattle.walk.specs.Records.{part, judged, fsync1At, frameIn, stepWith, stepAt};
-ghost use Rattle.walk.specs.StepClauses.{NoneStands, Missed};
+ghost use Rattle.walk.specs.Records.{part, judged, fsync1At, frameIn, limitRefusalOf, begunWith, stepAt};
+ghost use Rattle.walk.specs.StepClauses.{NoneStands, Missed, movedWith, movedAt};
 use frame::Answer;
 use frame::Header;
 use frame::Reading;
 use frame::Stream;
 
-// Where the walk stands. Hunting never looks at the misses.
-pub struct State {
+// Where the walk is. Hunting never looks at the misses.
+pub struct Position {
     pub place: usize,
     pub misses: usize,
     pub lock: bool,
+}
+
+// A walk: its limit of misses, which no step changes, and its position.
+pub struct State {
+    pub limit: usize,
+    pub position: Position,
+}
+
+// What beginning a walk hands back.
+pub enum Begun {
+    Walk(State),
+    Refused(u8),
 }
 
 // What a step hands out: a frame's place and header, a lost mark's place and refusal number, the place of a null transmission in lock, or done, with the place.
@@ -34,6 +46,13 @@ pub struct Step {
     pub item: Item,
     pub table: [Stream; 64],
     pub walk: State,
+}
+
+// A step but for the limit.
+struct Moved {
+    item: Item,
+    table: [Stream; 64],
+    position: Position,
 }
 
 // The refusal number of the period at p.
@@ -80,21 +99,21 @@ fn confirms(bytes: &[u8], p: usize) -> bool
     if fsync1_at(bytes, p) { !t } else { t }
 }
 
-// Every state of this crate is made by one of these two.
-fn lock_at(place: usize, misses: usize) -> State
+// Every position of this crate is made by one of these two.
+fn lock_at(place: usize, misses: usize) -> Position
     ensures { λ r. ⌜ r ≡ locked place misses ⌝ }
 {
-    State {
+    Position {
         place,
         misses,
         lock: true,
     }
 }
 
-fn hunt_at(place: usize, misses: usize) -> State
+fn hunt_at(place: usize, misses: usize) -> Position
     ensures { λ r. ⌜ r ≡ hunting place misses ⌝ }
 {
-    State {
+    Position {
         place,
         misses,
         lock: false,
@@ -102,58 +121,58 @@ fn hunt_at(place: usize, misses: usize) -> State
 }
 
 // The frame that stands at p, and the walk in lock a period later.
-fn frame_step(bytes: &[u8], p: usize) -> Step
+fn frame_step(bytes: &[u8], p: usize) -> Moved
     requires { ⌜ (p + 6144 ≤ length (now bytes)) × (refusalOf (part (now bytes) p) ≡ 0) ⌝ }
-    ensures { λ r. ⌜ r ≡ stepWith (now (bytes .entry)) (frameIn (now (bytes .entry)) p) (locked (p + 6144) 0) ⌝ }
+    ensures { λ r. ⌜ r ≡ movedWith (now (bytes .entry)) (frameIn (now (bytes .entry)) p) (locked (p + 6144) 0) ⌝ }
 {
-    let walk = lock_at(p + 6144, 0);
+    let position = lock_at(p + 6144, 0);
     let reading = read_at(bytes, p);
     let answer = reading.answer;
     let table = reading.table;
     match answer {
-        Answer::Accepted(h) => Step {
+        Answer::Accepted(h) => Moved {
             item: Item::Frame(p, h),
             table,
-            walk,
+            position,
         },
-        Answer::Refused(n) => Step {
+        Answer::Refused(n) => Moved {
             item: Item::Lost(p, n),
             table,
-            walk,
+            position,
         },
     }
 }
 
-// A lost mark at p with its refusal number, and the walk that goes on.
-fn lost_step(p: usize, n: u8, walk: State) -> Step
-    ensures { λ r. ⌜ ((bytes : List ℕ) → r ≡ stepWith bytes (Lost p n) walk) ⌝ }
+// A lost mark at p with its refusal number, and where the walk goes on.
+fn lost_step(p: usize, n: u8, position: Position) -> Moved
+    ensures { λ r. ⌜ ((bytes : List ℕ) → r ≡ movedWith bytes (Lost p n) position) ⌝ }
 {
-    Step {
+    Moved {
         item: Item::Lost(p, n),
         table: reading::no_streams(),
-        walk,
+        position,
     }
 }
 
-// An idle item at p, and the walk that goes on.
-fn idle_step(p: usize, walk: State) -> Step
-    ensures { λ r. ⌜ ((bytes : List ℕ) → r ≡ stepWith bytes (Idle p) walk) ⌝ }
+// An idle item at p, and where the walk goes on.
+fn idle_step(p: usize, position: Position) -> Moved
+    ensures { λ r. ⌜ ((bytes : List ℕ) → r ≡ movedWith bytes (Idle p) position) ⌝ }
 {
-    Step {
+    Moved {
         item: Item::Idle(p),
         table: reading::no_streams(),
-        walk,
+        position,
     }
 }
 
-fn done_step(walk: State) -> Step
-    ensures { λ r. ⌜ ((bytes : List ℕ) → r ≡ stepWith bytes (Done (walk .place)) walk) ⌝ }
+fn done_step(position: Position) -> Moved
+    ensures { λ r. ⌜ ((bytes : List ℕ) → r ≡ movedWith bytes (Done (position .place)) position) ⌝ }
 {
-    let p = walk.place;
-    Step {
+    let p = position.place;
+    Moved {
         item: Item::Done(p),
         table: reading::no_streams(),
-        walk,
+        position,
     }
 }
 
@@ -216,8 +235,8 @@ fn next_mark(bytes: &[u8], from: usize) -> usize
 }
 
 // Hunting from a place on: to the first place that is confirmed, or to the end.
-fn hunt(bytes: &[u8], from: usize, misses: usize) -> Step
-    ensures { λ r. ⌜ ((limit : ℕ) → r ≡ stepAt limit (now (bytes .entry)) (hunting from misses)) ⌝ }
+fn hunt(bytes: &[u8], from: usize, misses: usize) -> Moved
+    ensures { λ r. ⌜ ((limit : ℕ) → r ≡ movedAt limit (now (bytes .entry)) (hunting from misses)) ⌝ }
 {
     let n = bytes.len();
     if n < 6144 {
@@ -234,9 +253,9 @@ fn hunt(bytes: &[u8], from: usize, misses: usize) -> Step
 }
 
 // A lost mark at p; once the misses are as many as the limit, the hunt begins at the next byte.
-fn missed(bytes: &[u8], limit: usize, p: usize, misses: usize, n: u8) -> Step
+fn missed(bytes: &[u8], limit: usize, p: usize, misses: usize, n: u8) -> Moved
     requires { ⌜ Missed limit (now bytes) p misses n ⌝ }
-    ensures { λ r. ⌜ r ≡ stepAt limit (now (bytes .entry)) (locked p misses) ⌝ }
+    ensures { λ r. ⌜ r ≡ movedAt limit (now (bytes .entry)) (locked p misses) ⌝ }
 {
     if misses + 1 < limit {
         return lost_step(p, n, lock_at(p + 6144, misses + 1));
@@ -244,19 +263,19 @@ fn missed(bytes: &[u8], limit: usize, p: usize, misses: usize, n: u8) -> Step
     lost_step(p, n, hunt_at(p + 1, misses + 1))
 }
 
-fn in_lock(bytes: &[u8], limit: usize, p: usize, misses: usize) -> Step
-    ensures { λ r. ⌜ r ≡ stepAt limit (now (bytes .entry)) (locked p misses) ⌝ }
+fn in_lock(bytes: &[u8], limit: usize, p: usize, misses: usize) -> Moved
+    ensures { λ r. ⌜ r ≡ movedAt limit (now (bytes .entry)) (locked p misses) ⌝ }
 {
     let n = bytes.len();
-    let walk = lock_at(p, misses);
+    let position = lock_at(p, misses);
     if misses >= limit {
-        return done_step(walk);
+        return done_step(position);
     }
     if n < 6144 {
-        return done_step(walk);
+        return done_step(position);
     }
     if p > n - 6144 {
-        return done_step(walk);
+        return done_step(position);
     }
     let refusal = judge_at(bytes, p);
     if refusal == 0 {
@@ -268,17 +287,10 @@ fn in_lock(bytes: &[u8], limit: usize, p: usize, misses: usize) -> Step
     missed(bytes, limit, p, misses, refusal)
 }
 
-impl State {
-    // To the next frame, lost mark or idle item of the record; done, at its place, where there is none. Any state is taken.
-    pub fn step(self, bytes: &[u8]) -> Step
-        ensures { λ r. ⌜ r ≡ stepAt 3 (now (bytes .entry)) self ⌝ }
-    {
-        self.step_within(bytes, 3)
-    }
-
-    // The step with a limit of misses.
-    fn step_within(self, bytes: &[u8], limit: usize) -> Step
-        ensures { λ r. ⌜ r ≡ stepAt limit (now (bytes .entry)) self ⌝ }
+impl Position {
+    // A step with an allowed limit.
+    fn within(self, bytes: &[u8], limit: usize) -> Moved
+        ensures { λ r. ⌜ r ≡ movedAt limit (now (bytes .entry)) self ⌝ }
     {
         let p = self.place;
         let misses = self.misses;
@@ -290,9 +302,52 @@ impl State {
     }
 }
 
-// The walk at its beginning: hunting at place 0.
-pub fn begin() -> State
-    ensures { λ r. ⌜ r ≡ hunting 0 0 ⌝ }
+// 27 for a limit outside 1 to 8.
+pub fn limit_refusal(limit: usize) -> u8
+    ensures { λ r. ⌜ r ≡ limitRefusalOf limit ⌝ }
 {
-    hunt_at(0, 0)
+    if limit < 1 {
+        return 27;
+    }
+    if limit > 8 {
+        return 27;
+    }
+    0
+}
+
+// The walk at its beginning, hunting at place 0.
+pub fn begin(limit: usize) -> Begun
+    ensures { λ r. ⌜ r ≡ begunWith limit ⌝ }
+{
+    let refusal = limit_refusal(limit);
+    if refusal != 0 {
+        return Begun::Refused(refusal);
+    }
+    let position = hunt_at(0, 0);
+    Begun::Walk(State { limit, position })
+}
+
+impl State {
+    // To the next frame, lost mark or idle item of the record; done, at its place, where there is none. Any state is taken: one whose limit is outside 1 to 8 is done where it is.
+    pub fn step(self, bytes: &[u8]) -> Step
+        ensures { λ r. ⌜ r ≡ stepAt (now (bytes .entry)) self ⌝ }
+    {
+        let limit = self.limit;
+        let position = self.position;
+        if limit_refusal(limit) != 0 {
+            let item = Item::Done(position.place);
+            let table = reading::no_streams();
+            let walk = State { limit, position };
+            return Step { item, table, walk };
+        }
+        let moved = position.within(bytes, limit);
+        let item = moved.item;
+        let table = moved.table;
+        let next = moved.position;
+        let walk = State {
+            limit,
+            position: next,
+        };
+        Step { item, table, walk }
+    }
 }

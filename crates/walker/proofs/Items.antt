@@ -1,5 +1,6 @@
 -- The item of the n-th step is the n-th of the walk's items, and done after the last of them. The step that says done is what every later step hands back.
 -- Assumes nothing.
+use mathlib.Core.Bool.{true, false}
 use mathlib.Core.List.{List, [], _∷_, _++_}
 use mathlib.Core.Path.{_≡_, refl, sym, ap, _∙_}
 use Prim.Native.Nat.{ℕ, zero, suc, _+_, _<_}
@@ -9,18 +10,22 @@ use lib.ListN.{length, getD, replicate}
 use Rattle.walk.specs.declared.Item.{Item}
 use Rattle.walk.specs.declared.Item.the-variants.{Done}
 use Rattle.walk.specs.declared.State.{State}
-use Rattle.walk.specs.Walk.{Stepped, begin, items, rest, stepOf, calls}
+use Rattle.walk.specs.declared.Position.{Position}
+use Rattle.walk.specs.Walk.{Judged, Stepped, begin, items, rest, stepOf, calls}
 use Rattle.walk.specs.declared.Step.{Step}
-use Rattle.walk.specs.Records.{judged, stepWith, stepAt, stateAfter}
+use Rattle.walk.specs.Records.{judged, allowed, within, stepWith, stepAt, stateAfter}
 use Rattle.walk.proofs.Ending.{done-stays, calls-items}
-use Rattle.walker.specs.Advance.{nthOf, itemOf}
+use Rattle.walk.proofs.Limits.{by-limit, step-is, step-outside}
+use Rattle.walker.specs.Advance.{startOf, nthOf, itemOf}
+use Rattle.walker.proofs.Beginnings.{refused-done}
 
 -- of any more than n calls, the n-th
-called : (bytes : List ℕ) (n m : ℕ) (s : State) (d : Item) → n < m → stepAt 3 bytes (stateAfter 3 bytes n s) .item ≡ getD (calls (judged 3 bytes) m s) n d
-unfolding calls stateAfter stepAt stepWith
-called bytes n zero s d h = absurd (omega (arith, h))
-called bytes zero (suc m) s d h = refl
-called bytes (suc n) (suc m) s d h = called bytes n m (stepAt 3 bytes s .walk) d (omega (arith, h))
+called : (bytes : List ℕ) (m : ℕ) → allowed m ≡ true → (n k : ℕ) (p : Position) (d : Item) → n < k → stepAt bytes (stateAfter bytes n (within m p)) .item ≡ getD (calls (judged m bytes) k p) n d
+unfolding calls stateAfter stepWith
+called bytes m ok n zero p d h = absurd (omega (arith, h))
+called bytes m ok zero (suc k) p d h = ap (λ (r : Step). r .item) (step-is bytes m ok p)
+called bytes m ok (suc n) (suc k) p d h =
+    ap (λ (r : Step). stepAt bytes (stateAfter bytes n (r .walk)) .item) (step-is bytes m ok p) ∙ called bytes m ok n k (stepOf (judged m bytes) p .walk) d (omega (arith, h))
 
 -- what is found where there is nothing is the same put behind
 padded : (l : List Item) (k n : ℕ) (d : Item) → getD (l ++ replicate k d) n d ≡ getD l n d
@@ -30,24 +35,46 @@ padded [] (suc k) (suc n) d = padded [] k n d
 padded (x ∷ l) k zero d = refl
 padded (x ∷ l) k (suc n) d = padded l k n d
 
-pub nth-item : (bytes : List ℕ) (n : ℕ) → nthOf bytes n .item ≡ itemOf bytes n
-unfolding judged
-nth-item bytes n =
-    let R = judged 3 bytes in
-    let d = Done (rest R begin .place) in
-    called bytes n (length (items R begin) + suc n) begin d (omega arith)
-    ∙ ap (λ (l : List Item). getD l n d) (calls-items R (lit< tt) begin (suc n))
-    ∙ padded (items R begin) (suc n) n d
+said-again : (bytes : List ℕ) (s : State) (p : ℕ) → stepAt bytes s .item ≡ Done p → stepAt bytes (stepAt bytes s .walk) ≡ stepAt bytes s
+unfolding judged stepWith
+said-again bytes s p e = by-limit (s .limit) _ inside (λ f. ap (λ (r : Step). stepAt bytes (r .walk)) (step-outside bytes s f))
+  where
+    R : Judged
+    R = judged (s .limit) bytes
 
-said-again : (bytes : List ℕ) (s : State) (p : ℕ) → stepAt 3 bytes s .item ≡ Done p → stepAt 3 bytes (stepAt 3 bytes s .walk) ≡ stepAt 3 bytes s
-unfolding judged stepAt stepWith
-said-again bytes s p e =
-    ap (λ (x : Stepped). stepWith bytes (x .item) (x .walk)) (done-stays (judged 3 bytes) (lit< tt) s p e .1)
-    ∙ ap (λ (x : Item). stepWith bytes x (stepOf (judged 3 bytes) s .walk)) (sym e)
+    inside : allowed (s .limit) ≡ true → stepAt bytes (stepAt bytes s .walk) ≡ stepAt bytes s
+    inside f =
+        let q = step-is bytes (s .limit) f (s .position) in
+        let d = done-stays R (lit< tt) (s .position) p (sym (ap (λ (r : Step). r .item) q) ∙ e) .1 in
+        ap (λ (r : Step). stepAt bytes (r .walk)) q
+        ∙ step-is bytes (s .limit) f (stepOf R (s .position) .walk)
+        ∙ ap (λ (r : Stepped). stepWith bytes (r .item) (within (s .limit) (r .walk))) d
+        ∙ ap (λ (x : Item). stepWith bytes x (within (s .limit) (stepOf R (s .position) .walk))) (sym e ∙ ap (λ (r : Step). r .item) q)
+        ∙ sym q
 
-pub done-on : (bytes : List ℕ) (m : ℕ) (s : State) (p : ℕ) → stepAt 3 bytes s .item ≡ Done p → stepAt 3 bytes (stateAfter 3 bytes m s) ≡ stepAt 3 bytes s
+pub done-on : (bytes : List ℕ) (m : ℕ) (s : State) (p : ℕ) → stepAt bytes s .item ≡ Done p → stepAt bytes (stateAfter bytes m s) ≡ stepAt bytes s
 unfolding stateAfter
 done-on bytes zero s p e = refl
 done-on bytes (suc m) s p e =
     let same = said-again bytes s p e in
-    done-on bytes m (stepAt 3 bytes s .walk) p (ap (λ (x : Step). x .item) same ∙ e) ∙ same
+    done-on bytes m (stepAt bytes s .walk) p (ap (λ (x : Step). x .item) same ∙ e) ∙ same
+
+pub nth-item : (m : ℕ) (bytes : List ℕ) (n : ℕ) → nthOf m bytes n .step .item ≡ itemOf m bytes n
+unfolding judged itemOf startOf stepWith
+nth-item m bytes n = by-limit m _ inside outside
+  where
+    R : Judged
+    R = judged m bytes
+
+    inside : allowed m ≡ true → nthOf m bytes n .step .item ≡ itemOf m bytes n
+    inside e =
+        let d = Done (rest R begin .place) in
+        rw e
+        (called bytes m e n (length (items R begin) + suc n) begin d (omega arith)
+        ∙ ap (λ (l : List Item). getD l n d) (calls-items R (lit< tt) begin (suc n))
+        ∙ padded (items R begin) (suc n) n d)
+
+    outside : allowed m ≡ false → nthOf m bytes n .step .item ≡ itemOf m bytes n
+    outside e =
+        let d = refused-done m e bytes in
+        ap (λ (r : Step). r .item) (done-on bytes n (startOf m) 0 (ap (λ (r : Step). r .item) d) ∙ d) ∙ (rw e)

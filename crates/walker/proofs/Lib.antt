@@ -1,3 +1,4 @@
+pub mod Beginnings
 pub mod Held
 pub mod Items
 pub mod Periods

@@ -20,11 +20,11 @@ Whole bytes (Lost p n) = Unit {0}
 Whole bytes (Idle p) = Unit {0}
 Whole bytes (Done p) = Unit {0}
 
-pub frame-whole : (bytes : List ℕ) (s : State) → Whole bytes (stepAt 3 bytes s .item)
+pub frame-whole : (bytes : List ℕ) (s : State) → Whole bytes (stepAt bytes s .item)
 unfolding framePart
-frame-whole bytes s = go (stepAt 3 bytes s .item) (stepAt 3 bytes s .walk) (step-true 3 bytes s)
+frame-whole bytes s = go (stepAt bytes s .item) (stepAt bytes s .walk) (step-true bytes s)
   where
-    go : (x : Item) (t : State) → ItemTrue 3 bytes s x t → Whole bytes x
+    go : (x : Item) (t : State) → ItemTrue bytes s x t → Whole bytes x
     go (Frame p h) t f = (period-within bytes p (omega (arith, f .fits)), f .acceptable .whole)
     go (Lost p n) t f = tt
     go (Idle p) t f = tt

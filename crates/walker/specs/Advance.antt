@@ -10,11 +10,14 @@ use Rattle.octets.specs.Choice.{pick}
 use Rattle.frame.specs.Answers.{PartAt}
 use Rattle.walk.specs.declared.Item.{Item}
 use Rattle.walk.specs.declared.Item.the-variants.{Frame, Lost, Idle, Done}
+use Rattle.walk.specs.declared.State.{State}
 use Rattle.walk.specs.declared.Step.{Step}
 use Rattle.walk.specs.Walk.{begin, items, rest}
-use Rattle.walk.specs.Records.{judged, stepAt, stateAfter}
+use Rattle.walk.specs.Records.{judged, allowed, limitRefusalOf, start, stepAt, stateAfter}
 use Rattle.walker.specs.declared.Walk.{Walk}
 use Rattle.walker.specs.declared.Advanced.{Advanced}
+use Rattle.walker.specs.declared.Reached.{Reached}
+use Rattle.walker.specs.declared.Started.{Started}
 
 -- an empty part at the record's start
 abbrev pub noPart : Span
@@ -35,22 +38,30 @@ framePart bytes (Done p) = noPart
 abbrev pub FrameAt : RefT (List ℕ) → Item → RefT (List ℕ) → Type 0
 FrameAt s x r = PartAt s (framePart (now s) x) r
 
--- the very reference that came in, hunting at place 0
-abbrev pub begun : RefT (List ℕ) → Walk
-begun s = record { «record» = s; state = begin }
+-- the part that a walk begun with limit m holds: the whole record, and no part where the limit is refused
+unfoldable pub heldPart : ℕ → List ℕ → Span
+heldPart m bytes = pick (allowed m) (record { start = 0; len = length bytes }) noPart
+
+-- its state: hunting at place 0; where the limit is refused it has none, and is done there
+unfoldable pub startOf : ℕ → State
+startOf m = pick (allowed m) (start m) (start 0)
+
+-- the number, and the walk that holds the part s
+abbrev pub started : ℕ → RefT (List ℕ) → Started
+started m s = record { number = limitRefusalOf m; walk = record { «record» = s; state = startOf m } }
 
 -- what the walk finds from where it stands
 abbrev pub found : Walk → Step
-found w = stepAt 3 (now (w .«record»)) (w .state)
+found w = stepAt (now (w .«record»)) (w .state)
 
 -- the item, its table, its frame, which is a reference of its own, and the same record at the state after
 abbrev pub advanced : Walk → RefT (List ℕ) → Advanced
 advanced w f = record { item = found w .item; table = found w .table; frame = f; walk = record { «record» = w .«record»; state = found w .walk } }
 
--- what the step after n steps hands back
-abbrev pub nthOf : List ℕ → ℕ → Step
-nthOf bytes n = stepAt 3 bytes (stateAfter 3 bytes n begin)
+-- the number, and what the step after n steps from the beginning hands back
+abbrev pub nthOf : ℕ → List ℕ → ℕ → Reached
+nthOf m bytes n = record { number = limitRefusalOf m; step = stepAt bytes (stateAfter bytes n (startOf m)) }
 
--- the n-th of the items that the record's walk hands out; after the last of them done, where the walk rests
-abbrev pub itemOf : List ℕ → ℕ → Item
-itemOf bytes n = getD (items (judged 3 bytes) begin) n (Done (rest (judged 3 bytes) begin .place))
+-- the n-th of the items that the record's walk with limit m hands out; after the last of them done, where the walk rests; where the limit is refused, done at place 0
+unfoldable pub itemOf : ℕ → List ℕ → ℕ → Item
+itemOf m bytes n = pick (allowed m) (getD (items (judged m bytes) begin) n (Done (rest (judged m bytes) begin .place))) (Done 0)

@@ -1,17 +1,38 @@
 // The walk as one thing: the record and the walk's state in it, held together.
-// `begin`, `Walk::step` and `nth` are walked by hand; the work is in walk's `State::step`.
+// `begin`, `Walk::step` and `nth_from` are walked by hand; the work is in walk's `State::step`.
 ghost use mathlib.Core.Path.{_≡_};
 ghost use Rattle.frame.specs.Answers.{PartAt};
-ghost use Rattle.walker.specs.Advance.{periodPart, FrameAt, begun, advanced, nthOf, itemOf};
-ghost use Rattle.walker.specs.NthClauses.{endsAt};
+ghost use Rattle.walk.specs.Records.{stepAt, stateAfter};
+ghost use Rattle.walker.specs.Advance.{periodPart, heldPart, FrameAt, startOf, started, advanced, nthOf, itemOf};
+ghost use Rattle.walker.specs.NthClauses.{beginning, endsAt};
 use frame::Stream;
+use walk::Begun;
 use walk::Item;
+use walk::Position;
 use walk::State;
 use walk::Step;
 
 pub struct Walk<'a> {
     pub record: &'a [u8],
     pub state: State,
+}
+
+// 0 and the walk begun; or 27 and a walk that holds no part of the record and is done at place 0.
+pub struct Started<'a> {
+    pub number: u8,
+    pub walk: Walk<'a>,
+}
+
+// The number and the state of a walk begun.
+struct Beginning {
+    number: u8,
+    state: State,
+}
+
+// 0 and what the n-th step hands back; or 27 and done, at place 0.
+pub struct Reached {
+    pub number: u8,
+    pub step: Step,
 }
 
 // The item, its stream table and its part of the record (zero and empty unless it is a frame), and the advanced walk.
@@ -49,12 +70,50 @@ pub fn frame_of(record: &[u8], item: Item) -> &[u8]
     }
 }
 
-// Hunting at place 0.
-pub fn begin<'a>(record: &'a [u8]) -> Walk<'a>
-    ensures { λ r. ⌜ r ≡ begun («record» .entry) ⌝ }
+// Hunting at place 0, and done there where the limit is refused.
+fn beginning_of(limit: usize) -> Beginning
+    ensures { λ r. ⌜ r ≡ beginning limit ⌝ }
 {
-    let state = walk::begin();
-    Walk { record, state }
+    match walk::begin(limit) {
+        Begun::Walk(state) => Beginning { number: 0, state },
+        Begun::Refused(number) => Beginning {
+            number,
+            state: State {
+                limit: 0,
+                position: Position {
+                    place: 0,
+                    misses: 0,
+                    lock: false,
+                },
+            },
+        },
+    }
+}
+
+// The record; no part of it, at its start, where the limit is refused.
+fn held_part(record: &[u8], limit: usize) -> &[u8]
+    ensures { λ r. ⌜ PartAt («record» .entry) (heldPart limit (now («record» .entry))) r ⌝ }
+{
+    if walk::limit_refusal(limit) != 0 {
+        return &record[0..0];
+    }
+    let n = record.len();
+    &record[0..n]
+}
+
+// A walk over the record with a limit of misses. 27 for a limit outside 1 to 8.
+pub fn begin<'a>(record: &'a [u8], limit: usize) -> Started<'a>
+    ensures { λ r. ⌜ (r ≡ started limit (r .walk .«record»)) × PartAt («record» .entry) (heldPart limit (now («record» .entry))) (r .walk .«record») ⌝ }
+{
+    let b = beginning_of(limit);
+    let part = held_part(record, limit);
+    Started {
+        number: b.number,
+        walk: Walk {
+            record: part,
+            state: b.state,
+        },
+    }
 }
 
 impl<'a> Walk<'a> {
@@ -88,12 +147,11 @@ fn ends(left: usize, item: Item) -> bool
     }
 }
 
-// What the step after n steps hands back, from the beginning of the record: its item is the n-th of the record's walk.
-// No step is taken after done, however large n is.
-pub fn nth(record: &[u8], n: usize) -> Step
-    ensures { λ r. ⌜ (r ≡ nthOf (now («record» .entry)) n) × (r .item ≡ itemOf (now («record» .entry)) n) ⌝ }
+// What the step after n steps from a state hands back. No step is taken after done, however large n is.
+fn nth_from(record: &[u8], state: State, n: usize) -> Step
+    ensures { λ r. ⌜ r ≡ stepAt (now («record» .entry)) (stateAfter (now («record» .entry)) n state) ⌝ }
 {
-    let mut w = begin(record);
+    let mut w = Walk { record, state };
     let mut left = n;
     loop {
         let a = w.step();
@@ -107,4 +165,15 @@ pub fn nth(record: &[u8], n: usize) -> Step
         w = a.walk;
         left = left - 1;
     }
+}
+
+// What the step after n steps hands back, from the beginning of the record: its item is the n-th of the record's walk. 27 for a limit outside 1 to 8.
+pub fn nth(record: &[u8], limit: usize, n: usize) -> Reached
+    ensures { λ r. ⌜ (r ≡ nthOf limit (now («record» .entry)) n) × (r .step .item ≡ itemOf limit (now («record» .entry)) n) ⌝ }
+{
+    let b = beginning_of(limit);
+    let number = b.number;
+    let state = b.state;
+    let step = nth_from(record, state, n);
+    Reached { number, step }
 }

@@ -5,8 +5,11 @@ use Rattle.controller.proofs.put_step.Tie as tie
 
 returns : tie.Need-returns
 returns c =
-    let start = c .before .before .before .before .before .before .before .before .before .before .before .before .before .before in
-    step-stored (start .args .item) (start .args .walk) (start .args .out .now) _ _ _ (start .pre .0) (c .before .before .before .before .before .before .before .before .before .before .put8 .ensures) (c .before .before .before .before .before .before .put-marks .ensures) (rw (← c .before .before .before .before .before .before .before .before .before .before .before .before .place .ensures) (c .before .before .put82 .ensures))
+    let called = c .before .before .before .before .before .before .before .before .before .before .before .before .before .before .before .before .before .before in
+    let start = called .before .before in
+    step-stored (start .args .item) (start .args .walk) (start .args .out .now) _ _ _ _ _ _ _ (start .pre .0) (start .pre .1) (start .pre .2)
+    (c .before .before .before .before .before .before .before .before .before .before .before .before .before .before .bit .ensures) (c .before .before .before .before .before .before .before .before .before .before .before .before .before .before .before .before .before .kind .ensures) (c .before .before .before .before .before .before .before .before .before .before .before .before .before .before .before .before .number .ensures) (called .place .ensures)
+    (c .before .before .before .before .before .before .before .before .before .before .before .before .put8 .ensures) (c .before .before .before .before .before .before .put-marks .ensures) (c .before .before .put82 .ensures)
 
 pub put-step-spec : {M : Type 1} → statement M
 put-step-spec =
@@ -14,6 +17,11 @@ put-step-spec =
     (tie.spec
     (λ c κs. search needs)
     (λ c κs. search needs)
+    (λ c κs. search needs)
+    (λ c κs. search needs)
+    (λ c κs. search needs)
+    (λ c. search needs)
+    (λ c. search needs)
     (λ c κs. search needs)
     (λ c κs. search needs)
     (λ c. search needs)
