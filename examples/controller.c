@@ -1,4 +1,4 @@
-/* Walks a record: a line for each frame and lost mark, and the sub-channels of the first frame. */
+/* Walks a record: a line for each frame, lost mark and idle period, and the sub-channels of the first frame. */
 #define _POSIX_C_SOURCE 200809L
 #include "spindlewren.h"
 
@@ -88,20 +88,35 @@ static void item_line(struct record record, const uint8_t *walk) {
     }
 }
 
+/* The walk at its beginning; false where the words are not 'RECORD' or '--limit M RECORD'. */
+static int begun(int argc, char **argv, uint8_t *walk) {
+    unsigned long limit = 3;
+    char *end = "";
+    uint8_t refusal;
+    if (argc == 4 && strcmp(argv[1], "--limit") == 0 && argv[2][0] >= '0' && argv[2][0] <= '9')
+        limit = strtoul(argv[2], &end, 10);
+    else if (argc != 2)
+        return 0;
+    if (*end != '\0') return 0;
+    refusal = spindlewren_begin(limit, walk, SPINDLEWREN_WALK);
+    if (refusal != 0) fail(argv[2], spindlewren_label(refusal));
+    return 1;
+}
+
 int main(int argc, char **argv) {
-    uint8_t walk[SPINDLEWREN_WALK] = {0};
+    uint8_t walk[SPINDLEWREN_WALK];
     const uint8_t *first = NULL;
     uint64_t first_place = 0;
     struct record record;
-    if (argc != 2) {
-        fprintf(stderr, "usage: controller RECORD\n");
+    if (!begun(argc, argv, walk)) {
+        fprintf(stderr, "usage: controller [--limit M] RECORD\n");
         return BAD_USE;
     }
-    record = map(argv[1]);
+    record = map(argv[argc - 1]);
     puts("place kind code level");
     do {
         uint8_t refusal = spindlewren_step(record.bytes, record.len, walk, sizeof walk);
-        if (refusal != 0) fail(argv[1], spindlewren_label(refusal));
+        if (refusal != 0) fail(argv[argc - 1], spindlewren_label(refusal));
         item_line(record, walk);
         if (first == NULL && walk[SPINDLEWREN_KIND] == SPINDLEWREN_IS_FRAME) {
             first_place = spindlewren_number(walk, SPINDLEWREN_ITEM, 8);

@@ -14,7 +14,7 @@ enum {
     SPINDLEWREN_FRAME = 6144,
     SPINDLEWREN_ANSWER = 406, /* spindlewren_read */
     SPINDLEWREN_PART = 4,     /* spindlewren_fic, spindlewren_stream */
-    SPINDLEWREN_WALK = 20     /* spindlewren_step */
+    SPINDLEWREN_WALK = 21     /* spindlewren_begin, spindlewren_step */
 };
 
 /* What the answer of spindlewren_read has at which byte; one byte each where no number stands behind. */
@@ -52,14 +52,16 @@ enum {
     SPINDLEWREN_LEN = 2    /* 2 */
 };
 
-/* What a walk has: its state, which is all zero at the beginning of a record, and behind it the step's item. */
+/* What a walk has: its state and behind it the step's item. A walk is begun by spindlewren_begin: bytes all zero are a walk with limit 0, which is
+   done where it is, at place 0. */
 enum {
     SPINDLEWREN_PLACE = 0,   /* 8 */
     SPINDLEWREN_MISSES = 8,
     SPINDLEWREN_LOCK = 9,
-    SPINDLEWREN_KIND = 10,
-    SPINDLEWREN_NUMBER = 11, /* the refusal number of a lost mark, 4 of an idle item, else 0 */
-    SPINDLEWREN_ITEM = 12    /* 8: the item's place */
+    SPINDLEWREN_LIMIT = 10,  /* of misses, 1 to 8 */
+    SPINDLEWREN_KIND = 11,
+    SPINDLEWREN_NUMBER = 12, /* the refusal number of a lost mark, 4 of an idle item, else 0 */
+    SPINDLEWREN_ITEM = 13    /* 8: the item's place */
 };
 
 /* The kinds of item. */
@@ -84,13 +86,17 @@ enum {
     SPINDLEWREN_FL_DIFFERS = 9,     /* FL differs from the formula */
     SPINDLEWREN_FL_ABOVE = 10,      /* FL above 1,532 */
     SPINDLEWREN_TOO_WIDE = 12,      /* a value wider than its field: a lock byte above 1 */
-    SPINDLEWREN_NO_SUCH_STREAM = 13 /* stream index not below NST */
+    SPINDLEWREN_NO_SUCH_STREAM = 13, /* stream index not below NST */
+    SPINDLEWREN_LIMIT_OUTSIDE = 27  /* limit outside 1 to 8 */
 };
 
 /* Each returns the refusal number, 0 for accepted; refused, not one byte is written. A pointer may be null where its length is 0. */
 uint8_t spindlewren_read(const uint8_t *frame, size_t frame_len, uint8_t *answer, size_t answer_len);
 uint8_t spindlewren_fic(const uint8_t *frame, size_t frame_len, uint8_t *part, size_t part_len);
 uint8_t spindlewren_stream(const uint8_t *frame, size_t frame_len, size_t i, uint8_t *part, size_t part_len);
+
+/* A walk at the beginning of a record, which gives up its lock after `limit` misses: 27 for a limit outside 1 to 8, before anything else. */
+uint8_t spindlewren_begin(size_t limit, uint8_t *walk, size_t walk_len);
 
 /* One step of a walk over a record: the walk's bytes then hold the advanced state and its item. */
 uint8_t spindlewren_step(const uint8_t *record, size_t record_len, uint8_t *walk, size_t walk_len);
@@ -124,6 +130,7 @@ static inline const char *spindlewren_label(uint8_t number) {
     case SPINDLEWREN_FL_ABOVE: return "FL above 1,532";
     case SPINDLEWREN_TOO_WIDE: return "a value wider than its field";
     case SPINDLEWREN_NO_SUCH_STREAM: return "stream index not below NST";
+    case SPINDLEWREN_LIMIT_OUTSIDE: return "limit outside 1 to 8";
     default: return "no such number";
     }
 }

@@ -38,6 +38,11 @@ unsigned fic(const uint8_t *bytes, size_t len, size_t i, uint8_t *out, size_t ou
 unsigned stream(const uint8_t *bytes, size_t len, size_t i, uint8_t *out, size_t out_len) {
     return spindlewren_stream(bytes, len, i, out, out_len);
 }
+unsigned begin(const uint8_t *bytes, size_t len, size_t i, uint8_t *out, size_t out_len) {
+    (void)bytes;
+    (void)len;
+    return spindlewren_begin(i, out, out_len);
+}
 unsigned step(const uint8_t *bytes, size_t len, size_t i, uint8_t *out, size_t out_len) {
     (void)i;
     return spindlewren_step(bytes, len, out, out_len);
@@ -131,9 +136,11 @@ static void line(const uint8_t *record, const uint8_t *walk, char *text, size_t 
 
 /* A walk over a record, held to the listing that tests/listing has of it, and then done once more. */
 static void walked(const uint8_t *record, size_t len, const char *listing) {
-    uint8_t walk[SPINDLEWREN_WALK] = {0}, again[SPINDLEWREN_WALK];
+    uint8_t walk[SPINDLEWREN_WALK], again[SPINDLEWREN_WALK];
     char text[80], expected[80];
     FILE *lines = fopen(listing, "r");
+    memset(walk, FILL, sizeof walk);
+    hold(guarded(begin, NULL, 0, 3, walk, sizeof walk) == 0, "begin", 3);
     hold(lines != NULL && fgets(expected, sizeof expected, lines) != NULL, listing, 0);
     while (lines != NULL && fgets(expected, sizeof expected, lines) != NULL) {
         memset(walk + SPINDLEWREN_KIND, FILL, SPINDLEWREN_WALK - SPINDLEWREN_KIND);
@@ -147,6 +154,24 @@ static void walked(const uint8_t *record, size_t len, const char *listing) {
     if (lines != NULL) fclose(lines);
 }
 
+/* A walk begun with every limit, in bytes of every length up to twice the right one: 27 comes first. */
+static void begins(void) {
+    static const size_t limits[] = {0, 1, 2, 3, 4, 5, 6, 7, 8, 9, 10, 255, 256, 257, 259, (size_t)-1};
+    uint8_t walk[2 * SPINDLEWREN_WALK], zero[SPINDLEWREN_WALK] = {0};
+    size_t i, n;
+    for (i = 0; i < sizeof limits / sizeof *limits; i++) {
+        int outside = limits[i] < 1 || limits[i] > 8;
+        for (n = 0; n <= sizeof walk; n++) {
+            memset(walk, FILL, sizeof walk);
+            hold(guarded(begin, NULL, 0, limits[i], walk, n) == (outside ? 27U : n == SPINDLEWREN_WALK ? 0U : 1U), "begin", n);
+            zero[SPINDLEWREN_LIMIT] = (uint8_t)limits[i];
+            if (!outside && n == SPINDLEWREN_WALK) hold(memcmp(walk, zero, sizeof zero) == 0, "a walk begun", limits[i]);
+        }
+    }
+    hold(spindlewren_begin(0, NULL, 0) == 27 && spindlewren_begin(3, NULL, 0) == 1, "begin over null", 0);
+    calls += 2;
+}
+
 /* A state that cannot be: refused, or done at its own place with nothing changed. */
 static void states(const uint8_t *record, size_t len) {
     uint8_t walk[SPINDLEWREN_WALK], before[SPINDLEWREN_WALK];
@@ -158,8 +183,15 @@ static void states(const uint8_t *record, size_t len) {
         memset(walk, 0, sizeof walk);
         walk[SPINDLEWREN_MISSES] = (uint8_t)n;
         walk[SPINDLEWREN_LOCK] = 1;
+        walk[SPINDLEWREN_LIMIT] = 3;
         hold(guarded(step, record, len, 0, walk, sizeof walk) == 0, "misses", n);
         hold(walk[SPINDLEWREN_KIND] == (n < 3 ? SPINDLEWREN_IS_FRAME : SPINDLEWREN_IS_DONE), "misses", n);
+        memset(walk, 0, sizeof walk);
+        walk[SPINDLEWREN_LIMIT] = (uint8_t)n;
+        walk[SPINDLEWREN_LOCK] = n & 1;
+        hold(guarded(step, record, len, 0, walk, sizeof walk) == 0, "limit", n);
+        hold(walk[SPINDLEWREN_KIND] == (n >= 1 && n <= 8 ? SPINDLEWREN_IS_FRAME : SPINDLEWREN_IS_DONE), "limit", n);
+        hold(walk[SPINDLEWREN_LIMIT] == n, "the limit stays", n);
         memset(walk, FILL, sizeof walk);
         walk[SPINDLEWREN_PLACE] = (uint8_t)n;
         walk[SPINDLEWREN_LOCK] = n & 1;
@@ -171,7 +203,7 @@ static void states(const uint8_t *record, size_t len) {
 
 /* A null pointer with length 0, for the bytes, for the answer and for both: refused with 1; a walk over no record is done where it stands. */
 static void nulls(request *ask, const uint8_t *frame, size_t right) {
-    static const uint8_t done[SPINDLEWREN_WALK] = {0, 0, 0, 0, 0, 0, 0, 7, 2, 1, SPINDLEWREN_IS_DONE, 0, 0, 0, 0, 0, 0, 0, 0, 7};
+    static const uint8_t done[SPINDLEWREN_WALK] = {0, 0, 0, 0, 0, 0, 0, 7, 2, 1, 3, SPINDLEWREN_IS_DONE, 0, 0, 0, 0, 0, 0, 0, 0, 7};
     uint8_t out[SPINDLEWREN_ANSWER];
     memset(out, FILL, sizeof out);
     if (ask == step) memcpy(out, done, SPINDLEWREN_KIND);
@@ -207,6 +239,7 @@ int main(void) {
     walked(noise, noise_len, "tests/listing/noise.out");
     walked(night, night_len, "tests/listing/night.out");
     walked(four, 0, "tests/listing/empty.out");
+    begins();
     states(four, four_len);
     rows();
     free(four);

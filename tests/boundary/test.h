@@ -6,9 +6,9 @@
 
 enum { GUARD = 64, MOST = 2 * SPINDLEWREN_ANSWER, FILL = 0xA5, LONGEST = 6200 };
 
-/* The four exports, as one sort of request: bytes, an index, and bytes for the answer. */
+/* The exports, as one sort of request: bytes, an index or a limit, and bytes for the answer. */
 typedef unsigned request(const uint8_t *bytes, size_t len, size_t i, uint8_t *out, size_t out_len);
-request read_frame, fic, stream, step;
+request read_frame, fic, stream, begin, step;
 
 void hold(int right, const char *what, size_t at);
 
