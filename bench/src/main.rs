@@ -14,6 +14,8 @@ const USAGE: &str = "usage: bench [--rounds N], N at least 1";
 const HUNTED: usize = 4 << 20;
 const CLEAN_FRAMES: usize = 400;
 const TIMES: usize = 1000;
+/// The limit of the walks timed.
+const LIMIT: usize = 3;
 
 /// One thing timed: nanoseconds per unit of each round.
 struct Row {
@@ -102,7 +104,7 @@ impl Bench {
             what,
             (record.len(), "byte"),
             || assert_eq!(walked(record), 0),
-            || assert_eq!(step(black_box(record), State::default()).0, Item::Done(end)),
+            || assert_eq!(step(black_box(record), begun()).0, Item::Done(end)),
         );
     }
 
@@ -188,6 +190,7 @@ fn median_and_spread(times: &[f64]) -> (f64, String) {
 /// Frames met by the proved walk until it is done.
 fn walked(record: &[u8]) -> usize {
     let mut walk = [0; abi::WALK];
+    assert_eq!(abi::begin(LIMIT, &mut walk), 0);
     let mut frames = 0;
     loop {
         let number = abi::step(black_box(record), black_box(&mut walk));
@@ -199,9 +202,13 @@ fn walked(record: &[u8]) -> usize {
     }
 }
 
+fn begun() -> State {
+    State::begin(LIMIT).expect("3 is a limit")
+}
+
 /// The same by the opponent, who hands out each frame's reading as well.
 fn walked_rust(record: &[u8]) -> usize {
-    let mut state = State::default();
+    let mut state = begun();
     let mut frames = 0;
     loop {
         let (item, next) = black_box(step(black_box(record), state));

@@ -9,7 +9,7 @@ pub const ANSWER: usize = 406;
 pub const PART: usize = 4;
 pub const FIELDS: usize = 401;
 /// A walk's bytes are its state's and behind them its item's, the kind first.
-pub const STATE: usize = 10;
+pub const STATE: usize = 11;
 pub const ITEM: usize = 10;
 pub const WALK: usize = STATE + ITEM;
 pub const KIND: usize = STATE;
@@ -44,6 +44,7 @@ extern "C" {
         answer: *mut u8,
         answer_len: usize,
     ) -> u8;
+    fn spindlewren_begin(limit: usize, walk: *mut u8, walk_len: usize) -> u8;
     fn spindlewren_step(record: *const u8, record_len: usize, walk: *mut u8, walk_len: usize)
         -> u8;
     fn spindlewren_sum(bytes: *const u8, bytes_len: usize) -> u16;
@@ -59,6 +60,7 @@ extern "C" {
     fn spindlewren_nth(
         record: *const u8,
         record_len: usize,
+        limit: usize,
         n: usize,
         answer: *mut u8,
         answer_len: usize,
@@ -116,6 +118,10 @@ pub fn stream(frame: &[u8], index: usize, answer: &mut [u8]) -> u8 {
     }
 }
 
+pub fn begin(limit: usize, walk: &mut [u8]) -> u8 {
+    unsafe { spindlewren_begin(limit, walk.as_mut_ptr(), walk.len()) }
+}
+
 pub fn step(record: &[u8], walk: &mut [u8]) -> u8 {
     unsafe { spindlewren_step(record.as_ptr(), record.len(), walk.as_mut_ptr(), walk.len()) }
 }
@@ -141,11 +147,12 @@ pub fn relay(frame: &[u8], out: &mut [u8]) -> u8 {
     unsafe { spindlewren_relay(frame.as_ptr(), frame.len(), out.as_mut_ptr(), out.len()) }
 }
 
-pub fn nth(record: &[u8], n: usize, answer: &mut [u8]) -> u8 {
+pub fn nth(record: &[u8], limit: usize, n: usize, answer: &mut [u8]) -> u8 {
     unsafe {
         spindlewren_nth(
             record.as_ptr(),
             record.len(),
+            limit,
             n,
             answer.as_mut_ptr(),
             answer.len(),
@@ -247,8 +254,13 @@ pub fn part_bytes(part: std::ops::Range<usize>) -> Vec<u8> {
 
 pub fn state_bytes(state: State) -> Vec<u8> {
     let mut bytes = (state.place as u64).to_be_bytes().to_vec();
-    bytes.extend([state.misses as u8, u8::from(state.lock)]);
+    bytes.extend([state.misses as u8, u8::from(state.lock), state.limit as u8]);
     bytes
+}
+
+/// A walk's bytes before its first step, with no item yet.
+pub fn begun_bytes(state: State) -> Vec<u8> {
+    [state_bytes(state), vec![0; ITEM]].concat()
 }
 
 pub fn walk_bytes(item: &Item, state: State) -> Vec<u8> {
@@ -273,6 +285,7 @@ pub fn state_of(walk: &[u8]) -> State {
         place: place_of(&walk[..8]),
         misses: usize::from(walk[8]),
         lock: walk[9] == 1,
+        limit: usize::from(walk[10]),
     }
 }
 

@@ -7,12 +7,12 @@ use crate::frame::{
     fic_part, main_stream_part, read, stream_part, Reading, Stream, Timestamp, FRAME, MOST_STREAMS,
 };
 use crate::generate::frames::frame_case;
-use crate::generate::records::{record_case, Run};
+use crate::generate::records::{record_case, Record, Run};
 use crate::generate::writings::{writing_case, Writing};
 use crate::generate::{Random, Sort};
 use crate::relay::relay;
 use crate::sum::sum;
-use crate::walk::{is_null, nth, stands, step, State, MOST_MISSES};
+use crate::walk::{is_null, nth, stands, step, Item, State, LIMITS, LIMIT_OUTSIDE};
 use crate::writing::{write, PADDING};
 use std::fmt::Debug;
 use std::ops::AddAssign;
@@ -21,6 +21,8 @@ use std::ops::AddAssign;
 const GUARD: usize = 16;
 /// How far beyond the end of a walk an item is asked for.
 const MOST_BEYOND: usize = 2000;
+/// Limits outside 1 to 8, some of which are inside after narrowing.
+const OUTSIDE: [usize; 6] = [0, 9, 255, 256 + 3, (1 << 32) + 3, usize::MAX];
 
 pub struct Mismatch {
     pub kind: String,
@@ -38,6 +40,8 @@ pub struct Tally {
     pub numbers: [u64; 14],
     /// Items by their kind.
     pub items: [u64; 4],
+    /// Locks lost, by the walk's limit; at 0, limits refused.
+    pub limits: [u64; 9],
     pub signals: u64,
     /// Messages, at 0, and drops and refusals of signalling by their number.
     pub signal_numbers: [u64; 37],
@@ -51,6 +55,7 @@ impl Default for Tally {
             records: 0,
             numbers: [0; 14],
             items: [0; 4],
+            limits: [0; 9],
             signals: 0,
             signal_numbers: [0; 37],
         }
@@ -64,6 +69,7 @@ impl AddAssign<&Tally> for Tally {
         self.records += other.records;
         add_each(&mut self.numbers, &other.numbers);
         add_each(&mut self.items, &other.items);
+        add_each(&mut self.limits, &other.limits);
         self.signals += other.signals;
         add_each(&mut self.signal_numbers, &other.signal_numbers);
     }
@@ -249,20 +255,52 @@ impl Case<'_> {
         let record = record_case(&mut self.random);
         self.kind = format!("record, {}", record.kind);
         self.tally.records += 1;
-        let (frames, items) = self.walk(&record.bytes)?;
-        self.items(&record.bytes, items)?;
+        for limit in LIMITS {
+            self.record_within(&record, limit)?;
+        }
+        for limit in OUTSIDE {
+            self.limit_outside(&record.bytes, limit)?;
+        }
+        // All zero, a walk has limit 0.
+        let zeros = vec![0; abi::WALK];
+        let state = abi::state_of(&zeros);
+        self.step(&record.bytes, zeros, state)?;
         for _ in 0..8 {
             self.any_state(&record.bytes)?;
         }
+        Ok(())
+    }
+
+    /// The record's walk with a limit from 1 to 8.
+    fn record_within(&mut self, record: &Record, limit: usize) -> Checked<()> {
+        let (frames, items) = self.walk(&record.bytes, limit)?;
+        self.any_item(&record.bytes, limit, items)?;
         match record.run {
-            Some(run) => self.run_is_handed_out(&record.bytes, run, &frames),
+            Some(run) => self.run_is_handed_out(&record.bytes, run, limit, &frames),
             None => Ok(()),
         }
     }
 
+    fn limit_outside(&mut self, record: &[u8], limit: usize) -> Checked<()> {
+        self.tally.limits[0] += 1;
+        self.begun(limit)?;
+        let n = self.random.pick(&[0, 1, usize::MAX]);
+        self.item(record, limit, n, nth(record, limit, n))
+    }
+
+    fn begun(&mut self, limit: usize) -> Checked<Vec<u8>> {
+        let expected = State::begin(limit).map(abi::begun_bytes);
+        self.answer(
+            &format!("begin with limit {limit}"),
+            abi::WALK,
+            expected,
+            |walk| abi::begin(limit, walk),
+        )
+    }
+
     /// The whole walk and one step more; the places of its frames, and how many items it has.
-    fn walk(&mut self, record: &[u8]) -> Checked<(Vec<usize>, usize)> {
-        let mut walk = vec![0; abi::WALK];
+    fn walk(&mut self, record: &[u8], limit: usize) -> Checked<(Vec<usize>, usize)> {
+        let mut walk = self.begun(limit)?;
         let mut frames = Vec::new();
         let mut items = 0;
         let mut refused_in_a_row = 0;
@@ -285,17 +323,28 @@ impl Case<'_> {
         }
     }
 
-    /// Items by their number: the first, any, the last, some beyond the end, and the largest number, which must not take its steps.
-    fn items(&mut self, record: &[u8], items: usize) -> Checked<()> {
+    /// An item by its number: the first, any, the last, some beyond the end, or the largest number, which must not take its steps.
+    fn any_item(&mut self, record: &[u8], limit: usize, items: usize) -> Checked<()> {
         let any = self.random.within(0, items);
         let beyond = items + self.random.within(1, MOST_BEYOND);
-        for n in [0, any, items.saturating_sub(1), items, beyond, usize::MAX] {
-            // Done stays done, so this implementation need not take its steps either.
-            let expected = Ok(abi::item_bytes(&nth(record, n.min(beyond))));
-            self.answer(&format!("item {n}"), abi::ITEM, expected, |answer| {
-                abi::nth(record, n, answer)
-            })?;
-        }
+        let last = items.saturating_sub(1);
+        let n = self.random.pick(&[0, any, last, items, beyond, usize::MAX]);
+        // Done stays done, so this implementation need not take its steps either.
+        self.item(record, limit, n, nth(record, limit, n.min(beyond)))
+    }
+
+    fn item(
+        &mut self,
+        record: &[u8],
+        limit: usize,
+        n: usize,
+        item: Result<Item, u8>,
+    ) -> Checked<()> {
+        let what = format!("item {n} with limit {limit}");
+        let expected = item.map(|item| abi::item_bytes(&item));
+        self.answer(&what, abi::ITEM, expected, |answer| {
+            abi::nth(record, limit, n, answer)
+        })?;
         Ok(())
     }
 
@@ -305,7 +354,7 @@ impl Case<'_> {
         self.expect("step", walk, expected, |walk| abi::step(record, walk))
     }
 
-    /// In lock each item is of the period at hand, until three in a row are refused for a reason other than 4.
+    /// In lock each item is of the period at hand, until as many in a row as the limit are refused for a reason other than 4.
     fn one_item_a_period(
         &mut self,
         before: State,
@@ -317,7 +366,8 @@ impl Case<'_> {
             return Ok(());
         }
         self.same("place of an item in lock", &place, &before.place)?;
-        let lock = refused_in_a_row < MOST_MISSES;
+        let lock = refused_in_a_row < before.limit;
+        self.tally.limits[before.limit] += u64::from(!lock);
         let next = place + if lock { FRAME } else { 1 };
         let state = abi::state_of(walk);
         self.same("period behind", &(state.place, state.lock), &(next, lock))
@@ -326,12 +376,14 @@ impl Case<'_> {
     /// A step from a state that need not be reachable.
     fn any_state(&mut self, record: &[u8]) -> Checked<()> {
         let mut walk = self.random.bytes(abi::WALK);
+        let (any, limit) = (usize::from(walk[8]), self.any_limit());
         let state = State {
             place: self.any_place(record.len()),
             misses: self
                 .random
-                .pick(&[0, 1, 2, 3, 4, 255, usize::from(walk[8])]),
+                .pick(&[0, 1, limit.saturating_sub(1), limit, 8, 9, 255, any]),
             lock: self.random.one_in(2),
+            limit,
         };
         walk[..abi::STATE].copy_from_slice(&abi::state_bytes(state));
         match self.random.below(8) {
@@ -340,7 +392,9 @@ impl Case<'_> {
                 self.refused_step(record, walk, 12)
             }
             1 => {
-                walk.resize(self.random.pick(&[0, 10, 19, 21, 40]), 2);
+                // The length is looked at before the lock byte.
+                walk[9] = self.random.pick(&[0, 1, 2, 255]);
+                walk.resize(self.random.pick(&[0, 10, 11, 20, 22, 42]), 2);
                 self.refused_step(record, walk, 1)
             }
             _ => self.step(record, walk, state).map(|_| ()),
@@ -354,6 +408,13 @@ impl Case<'_> {
         Ok(())
     }
 
+    /// A limit that a byte holds, mostly one from 1 to 8.
+    fn any_limit(&mut self) -> usize {
+        let (inside, any) = (self.random.within(1, 8), usize::from(self.random.byte()));
+        self.random
+            .pick(&[inside, inside, inside, inside, inside, 0, 9, 255, any])
+    }
+
     fn any_place(&mut self, length: usize) -> usize {
         let inside = self.random.within(0, length);
         let period = inside / FRAME * FRAME;
@@ -364,25 +425,32 @@ impl Case<'_> {
         self.random.pick(&choices)
     }
 
-    /// Whatever came before, a run's third frame and all behind it are handed out. Where a place
-    /// less than a period before the run reads as a frame or a null transmission, a lock on it
-    /// reaches into the third frame; then it is the fourth, if there is a fifth.
-    fn run_is_handed_out(&mut self, record: &[u8], run: Run, frames: &[usize]) -> Checked<()> {
+    /// Whatever came before, with limit m a run's m-th frame and all behind it are handed out, if
+    /// there is one behind it. Where a place less than a period before the run reads as a frame or
+    /// a null transmission, a lock on it reaches into the m-th frame; then it is the next.
+    fn run_is_handed_out(
+        &mut self,
+        record: &[u8],
+        run: Run,
+        limit: usize,
+        frames: &[usize],
+    ) -> Checked<()> {
         let before = run.start.saturating_sub(FRAME - 1)..run.start;
         let overhung = before
             .into_iter()
             .any(|place| stands(record, place) || is_null(record, place));
-        let due = if overhung { 3 } else { 2 };
+        let first = if overhung { limit } else { limit - 1 };
         let last = run.frames - 1;
-        if overhung && last == due {
+        if first >= last {
             return Ok(());
         }
-        let due: Vec<usize> = (due..=last).map(|n| run.start + n * FRAME).collect();
+        let due: Vec<usize> = (first..=last).map(|n| run.start + n * FRAME).collect();
         let found: Vec<usize> = due.iter().copied().filter(|p| frames.contains(p)).collect();
         self.same("frames of a run handed out", &found, &due)
     }
 
-    /// An answer into bytes of the right length, and now and then of another, which is refused with 1.
+    /// An answer into bytes of the right length, and now and then of another, which is refused with 1
+    /// unless a limit was refused before.
     fn answer(
         &mut self,
         what: &str,
@@ -393,8 +461,10 @@ impl Case<'_> {
         if self.random.one_in(32) {
             let any = self.random.below(2 * length);
             let other = self.random.pick(&[0, length - 1, length + 1, any]);
+            let outside = expected == Err(LIMIT_OUTSIDE);
+            let number = if outside { LIMIT_OUTSIDE } else { 1 };
             if other != length {
-                self.fresh(what, other, Err(1), &call)?;
+                self.fresh(what, other, Err(number), &call)?;
             }
         }
         self.fresh(what, length, expected, call)

@@ -3,6 +3,8 @@
 use crate::frame::NULL_TRANSMISSION;
 use crate::walk::{step, Item, State};
 
+/// The limit of its walk.
+const LIMIT: usize = 3;
 /// Longer inputs are not listed.
 pub const MOST_BYTES: usize = 61_440;
 
@@ -11,7 +13,7 @@ pub fn listing(input: &[u8]) -> String {
         return "too long\n".to_string();
     }
     let mut lines = "place kind code level\n".to_string();
-    let mut state = State::default();
+    let mut state = State::begin(LIMIT).expect("3 is a limit");
     loop {
         let (item, next) = step(input, state);
         lines += &line(&item);

@@ -1,16 +1,65 @@
 //! Walking a record, one item a step.
 
 use crate::frame::{fsync1, judge, read, Reading, FRAME, NULL_TRANSMISSION};
-use std::ops::Range;
+use std::ops::{Range, RangeInclusive};
 
-/// After so many misses in a row the lock is lost.
-pub const MOST_MISSES: usize = 3;
+/// What a walk's limit may be: after so many misses in a row the lock is lost.
+pub const LIMITS: RangeInclusive<usize> = 1..=8;
+/// The refusal number of a limit outside.
+pub const LIMIT_OUTSIDE: u8 = 27;
 
-#[derive(Clone, Copy, Debug, Default, PartialEq, Eq)]
+#[derive(Clone, Copy, Debug, PartialEq, Eq)]
 pub struct State {
     pub place: usize,
     pub misses: usize,
     pub lock: bool,
+    /// Fixed when the walk begins.
+    pub limit: usize,
+}
+
+impl State {
+    /// Hunting at the beginning of a record, unless the limit is refused.
+    pub fn begin(limit: usize) -> Result<State, u8> {
+        let begun = State {
+            place: 0,
+            misses: 0,
+            lock: false,
+            limit,
+        };
+        begun.has_limit().then_some(begun).ok_or(LIMIT_OUTSIDE)
+    }
+
+    fn has_limit(self) -> bool {
+        LIMITS.contains(&self.limit)
+    }
+
+    /// In lock with misses that would have lost it: only a caller puts this together.
+    fn is_spent(self) -> bool {
+        self.lock && self.misses >= self.limit
+    }
+
+    /// In lock a period on, the misses cleared.
+    fn locked_behind(self, place: usize) -> State {
+        State {
+            place: place + FRAME,
+            misses: 0,
+            lock: true,
+            ..self
+        }
+    }
+
+    fn after_miss(self) -> State {
+        let misses = self.misses + 1;
+        let lock = misses < self.limit;
+        // A frame may begin inside the last missed period.
+        let place = self.place + if lock { FRAME } else { 1 };
+        State {
+            place,
+            misses,
+            lock,
+            ..self
+        }
+    }
 }
 
 /// An item lives for one step only, so a frame's reading is not boxed.
@@ -27,20 +76,21 @@ pub enum Item {
 
 /// The item found, and the advanced state.
 pub fn step(record: &[u8], state: State) -> (Item, State) {
+    let done = (Item::Done(state.place), state);
+    if !state.has_limit() || state.is_spent() {
+        return done;
+    }
     if !state.lock {
         return hunt(record, state);
     }
-    match period(record, state.place) {
-        Some(frame) if state.misses < MOST_MISSES => in_lock(frame, state),
-        _ => (Item::Done(state.place), state),
-    }
+    period(record, state.place).map_or(done, |frame| in_lock(frame, state))
 }
 
 /// The item that the step after `n` steps finds, from the beginning of the record.
-pub fn nth(record: &[u8], n: usize) -> Item {
-    let begun = State::default();
+pub fn nth(record: &[u8], limit: usize, n: usize) -> Result<Item, u8> {
+    let begun = State::begin(limit)?;
     let state = (0..n).fold(begun, |state, _| step(record, state).1);
-    step(record, state).0
+    Ok(step(record, state).0)
 }
 
 /// The place's 6,144 bytes exist and the reading accepts them.
@@ -60,30 +110,9 @@ fn period(record: &[u8], place: usize) -> Option<&[u8]> {
 fn in_lock(frame: &[u8], state: State) -> (Item, State) {
     let place = state.place;
     match read(frame) {
-        Ok(reading) => (Item::Frame(place, reading), locked_behind(place)),
-        Err(NULL_TRANSMISSION) => (Item::Idle(place), locked_behind(place)),
-        Err(number) => (Item::Lost(place, number), after_miss(state)),
-    }
-}
-
-/// In lock a period on, the misses cleared.
-fn locked_behind(place: usize) -> State {
-    State {
-        place: place + FRAME,
-        misses: 0,
-        lock: true,
-    }
-}
-
-fn after_miss(state: State) -> State {
-    let misses = state.misses + 1;
-    let lock = misses < MOST_MISSES;
-    // A frame may begin inside the third missed period.
-    let place = state.place + if lock { FRAME } else { 1 };
-    State {
-        place,
-        misses,
-        lock,
+        Ok(reading) => (Item::Frame(place, reading), state.locked_behind(place)),
+        Err(NULL_TRANSMISSION) => (Item::Idle(place), state.locked_behind(place)),
+        Err(number) => (Item::Lost(place, number), state.after_miss()),
     }
 }
 
@@ -94,7 +123,7 @@ fn hunt(record: &[u8], state: State) -> (Item, State) {
         .find(|&place| begins_lock(record, place))
         .and_then(|place| Some((place, read(period(record, place)?).ok()?)));
     match found {
-        Some((place, reading)) => (Item::Frame(place, reading), locked_behind(place)),
+        Some((place, reading)) => (Item::Frame(place, reading), state.locked_behind(place)),
         None => (
             Item::Done(end),
             State {

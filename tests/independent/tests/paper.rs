@@ -53,8 +53,8 @@ fn resummed(mut frame: Vec<u8>) -> Vec<u8> {
     frame
 }
 
-/// Four frames, FCT 10 to 13, sync words alternating.
-fn record() -> Vec<u8> {
+/// Frames with FCT from 10 on, sync words alternating.
+fn frames(count: u8) -> Vec<u8> {
     let frame = |n: u8| {
         let fields = Fields {
             fct: 10 + n,
@@ -63,7 +63,16 @@ fn record() -> Vec<u8> {
         };
         written(&fields).unwrap()
     };
-    (0..4).flat_map(frame).collect()
+    (0..count).flat_map(frame).collect()
+}
+
+fn record() -> Vec<u8> {
+    frames(4)
+}
+
+/// A walk begun with the limit of the listing.
+fn begun() -> State {
+    State::begin(3).unwrap()
 }
 
 #[test]
@@ -160,7 +169,7 @@ fn limits_on_reading() {
 #[test]
 fn one_frame_is_done_at_place_1() {
     let frame = written(&bare()).unwrap();
-    let (item, state) = step(&frame, State::default());
+    let (item, state) = step(&frame, begun());
     assert_eq!((item, state.place), (Item::Done(1), 1));
 }
 
@@ -251,6 +260,7 @@ fn the_last_null_transmission_is_idle_if_it_is_whole() {
             place: 2 * FRAME,
             misses: 2,
             lock: true,
+            ..begun()
         };
         let (item, next) = step(bytes, state);
         (item, next.place, next.misses, next.lock)
@@ -259,33 +269,39 @@ fn the_last_null_transmission_is_idle_if_it_is_whole() {
     assert_eq!(step_from(&whole), idle);
     let done = (Item::Done(2 * FRAME), 2 * FRAME, 2, true);
     assert_eq!(step_from(&whole[..3 * FRAME - 1]), done);
-    assert_eq!(nth(&whole, 2), Item::Idle(2 * FRAME));
-    assert_eq!(nth(&whole, 3), Item::Done(3 * FRAME));
+    assert_eq!(nth(&whole, 3, 2), Ok(Item::Idle(2 * FRAME)));
+    assert_eq!(nth(&whole, 3, 3), Ok(Item::Done(3 * FRAME)));
 }
 
 #[test]
 fn items_by_number() {
     let mut record = record();
     record[2 * FRAME + 1] = 0;
-    assert!(matches!(nth(&record, 1), Item::Frame(FRAME, _)));
-    assert_eq!(nth(&record, 2), Item::Lost(2 * FRAME, 2));
+    assert!(matches!(nth(&record, 3, 1), Ok(Item::Frame(FRAME, _))));
+    assert_eq!(nth(&record, 3, 2), Ok(Item::Lost(2 * FRAME, 2)));
     for n in [4, 5, 1000] {
-        assert_eq!(nth(&record, n), Item::Done(4 * FRAME));
+        assert_eq!(nth(&record, 3, n), Ok(Item::Done(4 * FRAME)));
+    }
+}
+
+/// The places of the walk's frames, and those of its lost marks.
+fn places(record: &[u8], limit: usize) -> (Vec<usize>, Vec<usize>) {
+    let mut state = State::begin(limit).unwrap();
+    let (mut frames, mut lost) = (Vec::new(), Vec::new());
+    loop {
+        let (item, next) = step(record, state);
+        match item {
+            Item::Frame(place, _) => frames.push(place),
+            Item::Lost(place, _) => lost.push(place),
+            Item::Idle(_) => {}
+            Item::Done(_) => return (frames, lost),
+        }
+        state = next;
     }
 }
 
 fn frame_places(record: &[u8]) -> Vec<usize> {
-    let mut state = State::default();
-    let mut places = Vec::new();
-    loop {
-        let (item, next) = step(record, state);
-        match item {
-            Item::Frame(place, _) => places.push(place),
-            Item::Lost(..) | Item::Idle(_) => {}
-            Item::Done(_) => return places,
-        }
-        state = next;
-    }
+    places(record, 3).0
 }
 
 fn four_from(start: usize) -> Vec<usize> {
@@ -321,9 +337,125 @@ fn any_state_is_taken() {
                 place,
                 misses: 255,
                 lock,
+                ..begun()
             };
             assert_eq!(step(&record()[..FRAME], state), (Item::Done(place), state));
         }
+    }
+}
+
+#[test]
+fn a_limit_is_a_number_from_1_to_8() {
+    for limit in [0, 9, 255, 256 + 3, usize::MAX] {
+        assert_eq!(State::begin(limit), Err(27));
+        assert_eq!(nth(&record(), limit, 0), Err(27));
+    }
+    for limit in 1..=8 {
+        let begun = State::begin(limit).unwrap();
+        assert_eq!((begun.place, begun.misses, begun.lock), (0, 0, false));
+        assert!(matches!(nth(&record(), limit, 0), Ok(Item::Frame(0, _))));
+    }
+}
+
+/// Four frames and nine refused periods: as many lost marks as the limit, then the walk hunts to the end.
+#[test]
+fn the_lock_is_lost_at_the_limit() {
+    let damaged = [record(), vec![0; 9 * FRAME]].concat();
+    for limit in 1..=8 {
+        let (frames, lost) = places(&damaged, limit);
+        assert_eq!(frames, four_from(0));
+        let refused: Vec<usize> = (4..4 + limit).map(|n| n * FRAME).collect();
+        assert_eq!(lost, refused);
+        let end = 13 * FRAME - 6143;
+        assert_eq!(nth(&damaged, limit, 4 + limit), Ok(Item::Done(end)));
+    }
+}
+
+/// One miss fewer than the limit, and the frame behind it is handed out in lock, with none to confirm it.
+#[test]
+fn the_lock_is_kept_below_the_limit() {
+    for limit in 1..=8 {
+        let refused = vec![0; (limit - 1) * FRAME];
+        let damaged = [record(), refused, frames(1)].concat();
+        let last = (4 + limit - 1) * FRAME;
+        assert_eq!(places(&damaged, limit).0.last(), Some(&last));
+        if limit > 1 {
+            assert_eq!(places(&damaged, limit - 1).0, four_from(0));
+        }
+    }
+}
+
+/// A hundred bytes too many: of m + 1 frames behind them the m-th and the last are handed out, of m frames none.
+#[test]
+fn the_limit_th_frame_is_handed_out() {
+    for limit in 1..=8 {
+        let start = 4 * FRAME + 100;
+        let behind = |count: usize| [record(), vec![0; 100], frames(count as u8)].concat();
+        let due = [start + (limit - 1) * FRAME, start + limit * FRAME];
+        let found = places(&behind(limit + 1), limit).0;
+        assert_eq!(found[..4], four_from(0));
+        assert_eq!(found[4..], due);
+        assert_eq!(places(&behind(limit), limit).0, four_from(0));
+    }
+}
+
+/// With limit 1 one miss drops the lock, and the hunt begins at the next byte; an idle item is no miss.
+#[test]
+fn no_patience() {
+    let bytes = [&record()[..], &null(false), &[0], &frames(2)].concat();
+    let first = 5 * FRAME + 1;
+    let (found, lost) = places(&bytes, 1);
+    assert_eq!(found, [four_from(0), vec![first, first + FRAME]].concat());
+    assert_eq!(lost, [5 * FRAME]);
+    assert_eq!(nth(&bytes, 1, 4), Ok(Item::Idle(4 * FRAME)));
+}
+
+/// Hunting or in lock, at a frame or not.
+#[test]
+fn a_walk_with_another_limit_is_done_where_it_is() {
+    for (limit, lock) in [(0, false), (0, true), (9, false), (9, true), (255, true)] {
+        for place in [0, 1, FRAME, 3 * FRAME] {
+            let state = State {
+                place,
+                misses: 0,
+                lock,
+                limit,
+            };
+            assert_eq!(step(&record(), state), (Item::Done(place), state));
+        }
+    }
+}
+
+/// Done where it is at a frame and at a null transmission; hunting, the misses do not matter.
+#[test]
+fn a_walk_in_lock_at_its_limit_is_done_where_it_is() {
+    for bytes in [record(), null(false)] {
+        for (limit, misses) in [(1, 1), (1, 255), (3, 3), (3, 4), (8, 8), (8, 9)] {
+            let state = State {
+                place: 0,
+                misses,
+                lock: true,
+                limit,
+            };
+            assert_eq!(step(&bytes, state), (Item::Done(0), state));
+        }
+    }
+    for (limit, misses, lock) in [(1, 0, true), (8, 7, true), (1, 1, false), (8, 255, false)] {
+        let state = State {
+            place: 0,
+            misses,
+            lock,
+            limit,
+        };
+        let (item, next) = step(&record(), state);
+        assert!(matches!(item, Item::Frame(0, _)));
+        let expected = State {
+            place: FRAME,
+            misses: 0,
+            lock: true,
+            limit,
+        };
+        assert_eq!(next, expected);
     }
 }
 

@@ -3,26 +3,32 @@
 use independent::frame::{FRAME, LOGICAL};
 use independent::generate::records::{record_case, Record};
 use independent::generate::{Random, Sort};
-use independent::walk::{is_null, stands, step, Item, State};
+use independent::walk::{is_null, stands, step, Item, State, LIMITS};
 use std::ops::Range;
 
 const SEED: u64 = 1;
 const RECORDS: u64 = 1000;
 
-/// A record, and the items of its walk, each with the state before it.
+/// A record, and the items of its walk with the limit, each with the state before it.
 struct Walked {
+    limit: usize,
     record: Record,
     items: Vec<(State, Item)>,
 }
 
-fn walked(record: Record) -> Walked {
+fn walked(case: u64, limit: usize) -> Walked {
+    let record = record_case(&mut Random::new(SEED, Sort::Record, case));
     let mut items = Vec::new();
-    let mut state = State::default();
+    let mut state = State::begin(limit).unwrap();
     loop {
         let (item, next) = step(&record.bytes, state);
         items.push((state, item));
         if let Item::Done(_) = item {
-            return Walked { record, items };
+            return Walked {
+                limit,
+                record,
+                items,
+            };
         }
         state = next;
     }
@@ -92,12 +98,26 @@ impl Walked {
             before.into_iter().any(|p| is_null(self.bytes(), p))
         })
     }
+
+    /// In lock with one miss fewer than the limit, an item like this.
+    fn at_the_limit(&self, like: impl Fn(&Item) -> bool) -> bool {
+        self.has(|before, item| before.lock && before.misses + 1 == self.limit && like(item))
+    }
+
+    /// Of the frames at the record's end those before this one are not handed out.
+    fn first_of_the_last(&self, n: usize) -> bool {
+        let out = |place| self.has(|_, item| matches!(item, Item::Frame(p, _) if *p == place));
+        self.record.run.is_some_and(|run| {
+            let mut last = (0..run.frames).map(|n| run.start + n * FRAME);
+            last.position(out) == Some(n)
+        })
+    }
 }
 
 type Wanted = (&'static str, fn(&Walked) -> bool);
 
 #[rustfmt::skip]
-const WANTED: [Wanted; 12] = [
+const NIGHTS: [Wanted; 12] = [
     ("a single idle item", |w| w.idle(1..2)),
     ("several idle items", |w| w.idle(2..4)),
     ("many idle items", |w| w.idle(7..100)),
@@ -112,17 +132,37 @@ const WANTED: [Wanted; 12] = [
     ("one that overhangs the last frames", Walked::overhung),
 ];
 
-#[test]
-fn everything_wanted_occurs() {
-    let mut met = [0; WANTED.len()];
+#[rustfmt::skip]
+const EDGES: [Wanted; 4] = [
+    ("the lock is lost", |w| w.at_the_limit(|item| matches!(item, Item::Lost(..)))),
+    ("a frame keeps the lock", |w| w.at_the_limit(|item| matches!(item, Item::Frame(..)))),
+    ("a null transmission keeps the lock", |w| w.at_the_limit(|item| matches!(item, Item::Idle(_)))),
+    ("the m-th of the last frames is the first handed out", |w| w.first_of_the_last(w.limit - 1)),
+];
+
+/// Each of these is met in walks with the limit.
+fn all_occur(wanted: &[Wanted], limit: usize) {
+    let mut met = vec![0; wanted.len()];
     for case in 0..RECORDS {
-        let walked = walked(record_case(&mut Random::new(SEED, Sort::Record, case)));
-        for (count, (_, occurs)) in met.iter_mut().zip(WANTED) {
+        let walked = walked(case, limit);
+        for (count, (_, occurs)) in met.iter_mut().zip(wanted) {
             *count += u64::from(occurs(&walked));
         }
     }
-    for (count, (what, _)) in met.iter().zip(WANTED) {
-        println!("{what}: in {count} of {RECORDS} records");
+    for (count, (what, _)) in met.iter().zip(wanted) {
+        println!("limit {limit}, {what}: {count} of {RECORDS} records");
+        assert!(*count > 0);
     }
-    assert!(!met.contains(&0), "{met:?}");
+}
+
+#[test]
+fn nights_occur() {
+    all_occur(&NIGHTS, 3);
+}
+
+#[test]
+fn the_edges_of_every_limit_occur() {
+    for limit in LIMITS {
+        all_occur(&EDGES, limit);
+    }
 }

@@ -132,6 +132,8 @@ fn report(tally: &Tally) -> ExitCode {
     println!("records {}", tally.records);
     let [frames, lost, idle, done] = tally.items;
     println!("items: frames {frames}, lost marks {lost}, idle {idle}, done {done}");
+    let [outside, inside @ ..] = tally.limits;
+    println!("locks lost with limits 1 to 8 {inside:?}, limits refused {outside}");
     for (number, count) in tally.numbers.iter().enumerate() {
         println!("number {number}: {count} cases");
     }
@@ -141,8 +143,9 @@ fn report(tally: &Tally) -> ExitCode {
         println!("signalling, number {number}: {count} times");
         never |= count == 0;
     }
-    if never || tally.numbers.contains(&0) || tally.items.contains(&0) {
-        println!("a number or a kind of item was never met");
+    let counts = [&tally.numbers[..], &tally.items, &tally.limits];
+    if never || counts.concat().contains(&0) {
+        println!("a number, a kind of item or a limit was never met");
         return ExitCode::FAILURE;
     }
     println!("no mismatch");

@@ -2,7 +2,7 @@
 
 use super::frames::{flip, frame_with, wrong_sync_word, Draft, Fault, FAULTS};
 use super::Random;
-use crate::frame::{FRAME, LOGICAL, STATUS, SYNC};
+use crate::frame::{judge, FRAME, LOGICAL, NULL_TRANSMISSION, STATUS, SYNC};
 
 /// Intact frames at a record's end, sync words alternating.
 #[derive(Clone, Copy)]
@@ -29,11 +29,12 @@ pub fn record_case(random: &mut Random) -> Record {
         next: random.below(2),
     };
     let mut run = None;
-    let kind = match random.below(9) {
+    let kind = match random.below(10) {
         0 => making.clean(random),
         1 => making.short(random),
         2 => making.nights(random),
-        3..=5 => making.pieces(random),
+        3 => making.outages(random),
+        4..=6 => making.pieces(random),
         _ => {
             run = Some(making.damage_then_run(random));
             "damage, then a run of intact frames"
@@ -51,6 +52,27 @@ fn intact(sync: usize, random: &mut Random) -> Vec<u8> {
     let mut draft = Draft::valid(random);
     draft.sync = SYNC[sync];
     draft.frame(random)
+}
+
+/// A frame with one fault, and mostly the sync word given.
+fn faulty(sync: usize, random: &mut Random) -> Vec<u8> {
+    let fault = random.pick(&FAULTS);
+    let mut frame = frame_with(&[fault], random);
+    frame.resize(FRAME, 0);
+    if fault != Fault::SyncWord {
+        frame[1..4].copy_from_slice(&SYNC[sync]);
+    }
+    frame
+}
+
+/// A period that is refused for a reason other than 4.
+fn refused(sync: usize, random: &mut Random) -> Vec<u8> {
+    loop {
+        let frame = faulty(sync, random);
+        if ![0, NULL_TRANSMISSION].contains(&judge(&frame)) {
+            return frame;
+        }
+    }
 }
 
 /// A null transmission with the sync word given. All its other bytes may be FF (clause 5.9), or those of a frame.
@@ -126,13 +148,27 @@ impl Making {
         "nights"
     }
 
+    /// The frame at the end is handed out only in lock, with none to confirm it.
+    fn outages(&mut self, random: &mut Random) -> &'static str {
+        for _ in 0..random.within(1, 2) {
+            self.intact(random);
+            self.intact(random);
+            self.refused_run(random);
+            if random.one_in(2) {
+                self.null(random);
+            }
+        }
+        self.intact(random);
+        "outages"
+    }
+
     fn damage_then_run(&mut self, random: &mut Random) -> Run {
         self.lead(random);
         for _ in 0..random.below(5) {
             self.piece(random);
         }
         let start = self.bytes.len();
-        let frames = random.within(4, 6);
+        let frames = random.within(2, 11);
         for _ in 0..frames {
             self.intact(random);
         }
@@ -148,7 +184,7 @@ impl Making {
     }
 
     fn piece(&mut self, random: &mut Random) {
-        match random.below(16) {
+        match random.below(18) {
             0 | 1 => self.several_intact(random),
             2 => self.same_sync_word(random),
             3..=5 => self.bad_run(random),
@@ -160,6 +196,7 @@ impl Making {
             11 | 12 => self.night(random),
             13 => self.unconfirmed(random),
             14 => self.idle_between_losses(random),
+            15 | 16 => self.refused_run(random),
             _ => self.flipped(random),
         }
     }
@@ -189,13 +226,20 @@ impl Making {
     /// One to four periods that mostly are refused, null transmissions among them.
     fn bad_run(&mut self, random: &mut Random) {
         for _ in 0..random.within(1, 4) {
-            let fault = random.pick(&FAULTS);
-            let mut frame = frame_with(&[fault], random);
-            frame.resize(FRAME, 0);
-            if fault != Fault::SyncWord {
-                frame[1..4].copy_from_slice(&SYNC[self.next]);
-            }
+            let frame = faulty(self.next, random);
             self.add(&frame);
+        }
+    }
+
+    fn refused(&mut self, random: &mut Random) {
+        let frame = refused(self.next, random);
+        self.add(&frame);
+    }
+
+    /// Refused periods up to one more than the largest limit.
+    fn refused_run(&mut self, random: &mut Random) {
+        for _ in 0..random.within(1, 9) {
+            self.refused(random);
         }
     }
 
@@ -232,8 +276,8 @@ impl Making {
     /// Fewer misses than lose the lock, a null transmission that clears them, and misses again.
     fn idle_between_losses(&mut self, random: &mut Random) {
         for _ in 0..2 {
-            for _ in 0..random.within(1, 2) {
-                self.damaged_null(random);
+            for _ in 0..random.within(1, 7) {
+                self.refused(random);
             }
             self.null(random);
         }
