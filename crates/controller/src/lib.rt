@@ -5,7 +5,7 @@ ghost use Prim.Native.Nat.{_+_, _≤_, _<_};
 ghost use lib.ListN.{length};
 ghost use Rattle.octets.specs.Stores.{put};
 ghost use Rattle.frame.specs.Rules.{refusalOf, streamRefusalOf, ficPart, streamPart};
-ghost use Rattle.frame.specs.Answers.{digit, sortOf, headerValues, timeBy};
+ghost use Rattle.frame.specs.Answers.{sortOf, headerValues, timeBy};
 ghost use Rattle.walk.specs.ItemValues.{kindOf, placeOf, lostOf};
 ghost use Rattle.controller.specs.Boundary.{encode, headCounts, firstCounts, firstValues, secondCounts, secondValues, thirdCounts, thirdValues, streamBytes, tableBytes, answerOf, partBytes, marksCounts, marksValues, stepBytes, stateIn, walkOf, stateRefusalOf, Told};
 use frame::Answer;
@@ -16,12 +16,6 @@ use frame::Timestamp;
 use walk::Item;
 use walk::State;
 use walk::Step;
-
-fn bit(b: bool) -> u8
-    ensures { λ r. ⌜ r ≡ digit b ⌝ }
-{
-    if b { 1 } else { 0 }
-}
 
 fn sort(t: Timestamp) -> u8
     ensures { λ r. ⌜ r ≡ sortOf t ⌝ }
@@ -75,8 +69,8 @@ fn put_first(out: &mut [u8], h: Header)
     requires { ⌜ length (now out) ≡ 406 ⌝ }
     ensures { λ _. ⌜ now (out .exit) ≡ put (now (out .entry)) 0 (encode firstCounts (firstValues h)) ⌝ }
 {
-    let fsync1 = bit(h.fsync1);
-    let ficf = bit(h.ficf);
+    let fsync1 = meaning::bit(h.fsync1);
+    let ficf = meaning::bit(h.ficf);
     let fl = h.fl;
     out[0] = h.level;
     out[1] = fsync1;
@@ -174,11 +168,11 @@ pub extern "C" fn spindlewren_fic(frame: &[u8], answer: &mut [u8]) -> u8
     if answer.len() != 4 {
         return 1;
     }
-    let refusal = parts::fic_refusal(frame);
+    let refusal = spans::fic_refusal(frame);
     if refusal != 0 {
         return refusal;
     }
-    put_part(answer, parts::fic_place(frame));
+    put_part(answer, spans::fic_place(frame));
     0
 }
 
@@ -190,11 +184,11 @@ pub extern "C" fn spindlewren_stream(frame: &[u8], i: usize, answer: &mut [u8]) 
     if answer.len() != 4 {
         return 1;
     }
-    let refusal = parts::stream_refusal(frame, i);
+    let refusal = spans::stream_refusal(frame, i);
     if refusal != 0 {
         return refusal;
     }
-    put_part(answer, parts::stream_place(frame, i));
+    put_part(answer, spans::stream_place(frame, i));
     0
 }
 
@@ -244,7 +238,7 @@ fn put_marks(out: &mut [u8], item: Item, walk: State)
     requires { ⌜ (length (now out) ≡ 20) × (walk .misses ≤ 255) ⌝ }
     ensures { λ _. ⌜ now (out .exit) ≡ put (now (out .entry)) 8 (encode marksCounts (marksValues item walk)) ⌝ }
 {
-    let lock = bit(walk.lock);
+    let lock = meaning::bit(walk.lock);
     let kind = kind(item);
     let lost = lost(item);
     out[8] = walk.misses as u8;
@@ -259,9 +253,9 @@ fn put_step(out: &mut [u8], item: Item, walk: State)
     ensures { λ _. ⌜ now (out .exit) ≡ stepBytes item walk ⌝ }
 {
     let at = place(item);
-    octets::put8(out, 0, walk.place);
+    putting::put8(out, 0, walk.place);
     put_marks(out, item, walk);
-    octets::put8(out, 12, at);
+    putting::put8(out, 12, at);
 }
 
 // A step of the walk whose state is in the lent bytes: they then hold the advanced walk and its item. Any bytes are taken.

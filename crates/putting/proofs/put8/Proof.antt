@@ -1,8 +1,8 @@
 use mathlib.Core.Path.{refl}
 use Rattle.octets.proofs.Storing.{put-chain, put-short, words-bytes}
 use borrow.Author.Needs.{needs}
-use Rattle.octets.proofs.put8.Statement.{statement}
-use Rattle.octets.proofs.put8.Tie as tie
+use Rattle.putting.proofs.put8.Statement.{statement}
+use Rattle.putting.proofs.put8.Tie as tie
 
 returns : tie.Need-returns
 returns c = put-short _ _ _ (search needs)

@@ -2,8 +2,8 @@ use mathlib.Core.Path.{_∙_}
 use Rattle.frame.proofs.Tiling.{granted-refused, granted-given}
 use Rattle.frame.specs.Rules.{ficPart}
 use borrow.Author.Needs.{needs}
-use Rattle.parts.proofs.fic_place.Statement.{statement}
-use Rattle.parts.proofs.fic_place.Tie as tie
+use Rattle.spans.proofs.fic_place.Statement.{statement}
+use Rattle.spans.proofs.fic_place.Tie as tie
 
 returns : tie.Need-returns
 unfolding ficPart

@@ -1,8 +1,8 @@
 use native.Mathlib.Omega.{arith}
 use Rattle.frame.proofs.Accepting.{request-refused, request-beyond, request-within}
 use borrow.Author.Needs.{needs}
-use Rattle.parts.proofs.stream_refusal.Statement.{statement}
-use Rattle.parts.proofs.stream_refusal.Tie as tie
+use Rattle.spans.proofs.stream_refusal.Statement.{statement}
+use Rattle.spans.proofs.stream_refusal.Tie as tie
 
 returns : tie.Need-returns
 returns c = request-refused _ _ _ (c .before .judge .ensures) (c .if1 .taken)

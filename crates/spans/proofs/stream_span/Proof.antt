@@ -1,9 +1,13 @@
 use borrow.Author.Needs.{needs}
-use Rattle.parts.proofs.stream_span.Statement.{statement}
-use Rattle.parts.proofs.stream_span.Tie as tie
+use Rattle.spans.proofs.stream_span.Statement.{statement}
+use Rattle.spans.proofs.stream_span.Tie as tie
 
 returns : tie.Need-returns
-returns c = cc
+returns c =
+    let end = c .before .before in
+    let seen = end .before .before .before in
+    let fc = seen .before .fc .ensures in
+    rw (end .ficl .ensures .0, end .before .before .entry .ensures, seen .look-over .ensures .1, fc .nst, fc .ficf, fc .mid)
 
 pub stream-span-spec : {M : Type 1} → statement M
 stream-span-spec =

@@ -1,8 +1,8 @@
 use borrow.Author.Needs.{needs}
 use Rattle.octets.proofs.Deciding.{tests}
 use Rattle.frame.specs.Frame.{ficlBy}
-use Rattle.fields.proofs.ficl.Statement.{statement}
-use Rattle.fields.proofs.ficl.Tie as tie
+use Rattle.meaning.proofs.ficl.Statement.{statement}
+use Rattle.meaning.proofs.ficl.Tie as tie
 
 returns : tie.Need-returns
 unfolding ficlBy

@@ -3,8 +3,8 @@ use mathlib.Core.Path.{sym, _∙_}
 use Rattle.frame.proofs.Tiling.{granted-refused, granted-given, stream-granted}
 use Rattle.frame.specs.Rules.{streamPart}
 use borrow.Author.Needs.{needs}
-use Rattle.parts.proofs.stream_place.Statement.{statement}
-use Rattle.parts.proofs.stream_place.Tie as tie
+use Rattle.spans.proofs.stream_place.Statement.{statement}
+use Rattle.spans.proofs.stream_place.Tie as tie
 
 returns : tie.Need-returns
 unfolding streamPart

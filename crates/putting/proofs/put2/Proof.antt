@@ -2,9 +2,9 @@ use mathlib.Core.List.{[], _∷_}
 use native.Mathlib.Omega.{arith}
 use lib.ListN.{length-set}
 use borrow.Author.Needs.{needs}
 use Rattle.octets.proofs.Storing.{stores, put-short, low-byte}
-use Rattle.octets.proofs.put2.Statement.{statement}
-use Rattle.octets.proofs.put2.Tie as tie
+use Rattle.putting.proofs.put2.Statement.{statement}
+use Rattle.putting.proofs.put2.Tie as tie
 
 returns : tie.Need-returns
 returns c = put-short _ _ _ (search needs)

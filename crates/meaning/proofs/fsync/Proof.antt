@@ -1,7 +1,7 @@
 use borrow.Author.Needs.{needs}
 use Rattle.octets.proofs.Deciding.{tests}
-use Rattle.fields.proofs.fsync.Statement.{statement}
-use Rattle.fields.proofs.fsync.Tie as tie
+use Rattle.meaning.proofs.fsync.Statement.{statement}
+use Rattle.meaning.proofs.fsync.Tie as tie
 
 returns : tie.Need-returns
 returns c = search (needs, tests)
