@@ -83,7 +83,7 @@ fn parts(given: &[u8], g: Given, fic_len: usize, start: usize) {
     build(&mut frame, g);
     line::text(given);
     line::plain(b", FIC bytes", parts::fic(&frame).len(), fic_len);
-    let place = parts::stream_place(&frame, 0);
+    let place = spans::stream_place(&frame, 0);
     line::text(given);
     line::plain(b", stream 0 begins at", place.start, start);
     line::text(given);
@@ -93,7 +93,7 @@ fn parts(given: &[u8], g: Given, fic_len: usize, start: usize) {
 fn index(i: usize, expected: usize, len: usize) {
     let mut frame = [0x55u8; 6144];
     build(&mut frame, plain());
-    let result = parts::stream_refusal(&frame, i);
+    let result = spans::stream_refusal(&frame, i);
     line::text(b"refusal, stream index ");
     line::number(i);
     line::plain(b"", result as usize, expected);

@@ -5,7 +5,7 @@ ghost use Prim.Native.Nat.{_+_, _≤_, _<_};
 ghost use lib.ListN.{length};
 ghost use Rattle.octets.specs.Stores.{put};
 ghost use Rattle.frame.specs.Rules.{refusalOf, streamRefusalOf, ficPart, streamPart};
-ghost use Rattle.frame.specs.Answers.{digit, sortOf, headerValues, timeBy};
+ghost use Rattle.frame.specs.Answers.{sortOf, headerValues, timeBy};
 ghost use Rattle.walk.specs.ItemValues.{kindOf, placeOf, numberOf};
 ghost use Rattle.controller.specs.Boundary.{encode, headCounts, firstCounts, firstValues, secondCounts, secondValues, thirdCounts, thirdValues, streamBytes, tableBytes, answerOf, partBytes, stepBytes, stateIn, walkOf, begunBytes, stateRefusalOf, Told, Limited};
 use frame::Answer;
@@ -17,12 +17,6 @@ use walk::Item;
 use walk::Position;
 use walk::State;
 use walk::Step;
-
-fn bit(b: bool) -> u8
-    ensures { λ r. ⌜ r ≡ digit b ⌝ }
-{
-    if b { 1 } else { 0 }
-}
 
 fn sort(t: Timestamp) -> u8
     ensures { λ r. ⌜ r ≡ sortOf t ⌝ }
@@ -76,8 +70,8 @@ fn put_first(out: &mut [u8], h: Header)
     requires { ⌜ length (now out) ≡ 406 ⌝ }
     ensures { λ _. ⌜ now (out .exit) ≡ put (now (out .entry)) 0 (encode firstCounts (firstValues h)) ⌝ }
 {
-    let fsync1 = bit(h.fsync1);
-    let ficf = bit(h.ficf);
+    let fsync1 = meaning::bit(h.fsync1);
+    let ficf = meaning::bit(h.ficf);
     let fl = h.fl;
     out[0] = h.level;
     out[1] = fsync1;
@@ -175,11 +169,11 @@ pub extern "C" fn spindlewren_fic(frame: &[u8], answer: &mut [u8]) -> u8
     if answer.len() != 4 {
         return 1;
     }
-    let refusal = parts::fic_refusal(frame);
+    let refusal = spans::fic_refusal(frame);
     if refusal != 0 {
         return refusal;
     }
-    put_part(answer, parts::fic_place(frame));
+    put_part(answer, spans::fic_place(frame));
     0
 }
 
@@ -191,11 +185,11 @@ pub extern "C" fn spindlewren_stream(frame: &[u8], i: usize, answer: &mut [u8]) 
     if answer.len() != 4 {
         return 1;
     }
-    let refusal = parts::stream_refusal(frame, i);
+    let refusal = spans::stream_refusal(frame, i);
     if refusal != 0 {
         return refusal;
     }
-    put_part(answer, parts::stream_place(frame, i));
+    put_part(answer, spans::stream_place(frame, i));
     0
 }
 
@@ -268,8 +262,8 @@ fn put_step(out: &mut [u8], item: Item, walk: State)
     let kind = kind(item);
     let number = number(item);
     let position = walk.position;
-    let lock = bit(position.lock);
-    octets::put8(out, 0, position.place);
+    let lock = meaning::bit(position.lock);
+    putting::put8(out, 0, position.place);
     put_marks(
         out,
         position.misses as u8,
@@ -278,7 +272,7 @@ fn put_step(out: &mut [u8], item: Item, walk: State)
         kind,
         number,
     );
-    octets::put8(out, 13, at);
+    putting::put8(out, 13, at);
 }
 
 // A walk begun: all zero but the limit.
@@ -286,9 +280,9 @@ fn put_begun(out: &mut [u8], limit: u8)
     requires { ⌜ length (now out) ≡ 21 ⌝ }
     ensures { λ _. ⌜ now (out .exit) ≡ begunBytes limit ⌝ }
 {
-    octets::put8(out, 0, 0);
+    putting::put8(out, 0, 0);
     put_marks(out, 0, 0, limit, 0, 0);
-    octets::put8(out, 13, 0);
+    putting::put8(out, 13, 0);
 }
 
 // A step of the walk whose state is in the lent bytes: they then hold the advanced walk and its item. Any bytes are taken.

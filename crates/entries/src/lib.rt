@@ -115,7 +115,7 @@ fn put_ten(out: &mut [u8], kind: u8, number: u8, n: usize)
     ensures { λ _. ⌜ now (out .exit) ≡ tenBytes kind number n ⌝ }
 {
     put_two(out, kind, number);
-    octets::put8(out, 2, n);
+    putting::put8(out, 2, n);
 }
 
 fn put_item(out: &mut [u8], item: Item)

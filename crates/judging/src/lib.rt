@@ -73,8 +73,8 @@ fn head_in(frame: &[u8]) -> u8
     let sync = fields::sync(frame);
     let fc = fields::fc(frame);
     head(
-        fields::fsync(sync.fsync),
-        fields::level(sync.err),
+        meaning::fsync(sync.fsync),
+        meaning::level(sync.err),
         octets::word(frame, 4),
         fc.nst,
     )
@@ -93,7 +93,7 @@ fn body_in(frame: &[u8]) -> u8
         fc.fct,
         seen.above,
         fc.fl as usize,
-        n + 1 + fields::ficl(fc.ficf, fc.mid) + 2 * (seen.total as usize),
+        n + 1 + meaning::ficl(fc.ficf, fc.mid) + 2 * (seen.total as usize),
     )
 }
 
@@ -117,7 +117,7 @@ pub fn is_fsync1(frame: &[u8]) -> bool
 {
     if frame.len() == 6144 {
         let sync = fields::sync(frame);
-        fields::fsync(sync.fsync) == 1
+        meaning::fsync(sync.fsync) == 1
     } else {
         false
     }

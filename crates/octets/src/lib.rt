@@ -1,9 +1,8 @@
-// Numbers in bytes, high byte first: readers that give 0 for what lies beyond the end, and stores that store only where there is room.
+// Numbers in bytes, high byte first: readers that give 0 for what lies beyond the end.
 ghost use mathlib.Core.Path.{_≡_};
 ghost use Prim.Native.Nat.{_+_, _<_};
 ghost use lib.ListN.{getD};
-ghost use Rattle.octets.specs.Words.{split, bytes2, bytes4, bytes8, twoAt, wordAt, eightAt};
-ghost use Rattle.octets.specs.Stores.{put};
+ghost use Rattle.octets.specs.Words.{twoAt, wordAt, eightAt};
 
 pub fn byte(bytes: &[u8], at: usize) -> usize
     ensures { λ r. ⌜ (r ≡ getD (now (bytes .entry)) at 0) × (r < 256) ⌝ }
@@ -52,49 +51,4 @@ pub fn eight(bytes: &[u8], at: usize) -> usize
         + byte_on(bytes, at, 5) * 65536
         + byte_on(bytes, at, 6) * 256
         + byte_on(bytes, at, 7)
-}
-
-pub fn put2(out: &mut [u8], at: usize, n: u16)
-    ensures { λ _. ⌜ now (out .exit) ≡ put (now (out .entry)) at (split bytes2 n) ⌝ }
-{
-    let len = out.len();
-    if len < 2 {
-        return;
-    }
-    if at > len - 2 {
-        return;
-    }
-    out[at] = (n / 256 % 256) as u8;
-    out[at + 1] = (n % 256) as u8;
-}
-
-// The low four bytes of a number.
-pub fn put4(out: &mut [u8], at: usize, n: usize)
-    ensures { λ _. ⌜ now (out .exit) ≡ put (now (out .entry)) at (split bytes4 n) ⌝ }
-{
-    let len = out.len();
-    if len < 4 {
-        return;
-    }
-    if at > len - 4 {
-        return;
-    }
-    out[at] = (n / 16777216 % 256) as u8;
-    out[at + 1] = (n / 65536 % 256) as u8;
-    out[at + 2] = (n / 256 % 256) as u8;
-    out[at + 3] = (n % 256) as u8;
-}
-
-pub fn put8(out: &mut [u8], at: usize, n: usize)
-    ensures { λ _. ⌜ now (out .exit) ≡ put (now (out .entry)) at (split bytes8 n) ⌝ }
-{
-    let len = out.len();
-    if len < 8 {
-        return;
-    }
-    if at > len - 8 {
-        return;
-    }
-    put4(out, at, n / 4294967296);
-    put4(out, at + 4, n);
 }

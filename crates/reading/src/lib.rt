@@ -56,8 +56,8 @@ fn header(frame: &[u8]) -> Header
     let timestamp = timestamp(tist.time);
     let worked = main_sum(frame);
     Header {
-        level: handed(fields::level(sync.err), worked, eof.sum),
-        fsync1: fields::fsync(sync.fsync) == 1,
+        level: handed(meaning::level(sync.err), worked, eof.sum),
+        fsync1: meaning::fsync(sync.fsync) == 1,
         fct: fc.fct,
         ficf: fc.ficf == 1,
         nst: fc.nst,

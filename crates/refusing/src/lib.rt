@@ -147,7 +147,7 @@ fn body_in(x: Fields, main: usize) -> u8
 {
     let count = x.count;
     let table = x.table;
-    let ficl = fields::ficl(fields::bit(x.ficf), x.mid);
+    let ficl = meaning::ficl(meaning::bit(x.ficf), x.mid);
     let seen = look_over(table, count);
     let total = seen.total as usize;
     body(

@@ -44,7 +44,7 @@ fn put_start(out: &mut [u8], kind: u8, n: u8, m: &[u8])
     requires { ⌜ (8 ≤ length (now out)) × (4 ≤ length (now m)) ⌝ }
     ensures { λ _. ⌜ now (out .exit) ≡ put (now (out .entry)) 0 (startGroup kind n (take 4 (now (m .entry)))) ⌝ }
 {
-    octets::put4(out, 0, 0xC0000000 + (kind as usize) * 256 + (n as usize));
+    putting::put4(out, 0, 0xC0000000 + (kind as usize) * 256 + (n as usize));
     copy(out, 4, m, 0, 4);
 }
 
@@ -52,7 +52,7 @@ fn put_continuation(out: &mut [u8], at: usize, m: &[u8], i: usize)
     requires { ⌜ (at + 8 ≤ length (now out)) × (i + 6 ≤ length (now m)) ⌝ }
     ensures { λ _. ⌜ now (out .exit) ≡ put (now (out .entry)) at (continuationGroup (take 6 (drop i (now (m .entry))))) ⌝ }
 {
-    octets::put2(out, at, 0xC300);
+    putting::put2(out, at, 0xC300);
     copy(out, at + 2, m, i, 6);
 }
 
@@ -79,7 +79,7 @@ fn put_last(out: &mut [u8], at: usize, m: &[u8], i: usize)
     requires { ⌜ (at + 6 ≤ length (now out)) × (i + 4 ≤ length (now m)) ⌝ }
     ensures { λ _. ⌜ now (out .exit) ≡ put (now (out .entry)) at (0xCC ∷ 0 ∷ take 4 (drop i (now (m .entry)))) ⌝ }
 {
-    octets::put2(out, at, 0xCC00);
+    putting::put2(out, at, 0xCC00);
     copy(out, at + 2, m, i, 4);
 }
 
@@ -90,7 +90,7 @@ fn put_end(out: &mut [u8], at: usize, m: &[u8], i: usize)
 {
     put_last(out, at, m, i);
     let s = sum_before(out, at + 6);
-    octets::put2(out, at + 6, s);
+    putting::put2(out, at + 6, s);
 }
 
 fn put_groups(kind: u8, m: &[u8], out: &mut [u8])

@@ -109,8 +109,8 @@ fn put_two(bytes: &mut [u8], at: usize, p: u16, q: u16)
     requires { ⌜ at + 4 ≤ length (now bytes) ⌝ }
     ensures { λ _. ⌜ now (bytes .exit) ≡ put (now (bytes .entry)) at (sent p ++ sent q) ⌝ }
 {
-    octets::put2(bytes, at, p);
-    octets::put2(bytes, at + 2, q);
+    putting::put2(bytes, at, p);
+    putting::put2(bytes, at + 2, q);
 }
 
 // Three pairs.
@@ -119,7 +119,7 @@ fn put_three(bytes: &mut [u8], at: usize, p: u16, q: u16, s: u16)
     ensures { λ _. ⌜ now (bytes .exit) ≡ put (now (bytes .entry)) at (sent p ++ sent q ++ sent s) ⌝ }
 {
     put_two(bytes, at, p, q);
-    octets::put2(bytes, at + 4, s);
+    putting::put2(bytes, at + 4, s);
 }
 
 fn no_message() -> Opened

@@ -119,9 +119,9 @@ fn put_signal(out: &mut [u8], item: Item, group: Group, message: Opened)
     let len = item_length(item);
     let first = group_word(group);
     let second = message_word(message, kind, number);
-    octets::put8(out, 0, first);
-    octets::put8(out, 8, second);
-    octets::put8(out, 16, len);
+    putting::put8(out, 0, first);
+    putting::put8(out, 8, second);
+    putting::put8(out, 16, len);
 }
 
 // A frame's FP and MNSC to the signalling whose state is in the lent bytes: they then hold the state after it and its item.

@@ -43,20 +43,6 @@ fn put1(frame: &mut [u8], at: usize, b: u8) {
     }
 }
 
-fn put2(frame: &mut [u8], at: usize, n: u16) {
-    if at < 65536 {
-        put1(frame, at, (n / 256) as u8);
-        put1(frame, at + 1, (n % 256) as u8);
-    }
-}
-
-fn put4(frame: &mut [u8], at: usize, n: u32) {
-    if at < 65536 {
-        put2(frame, at, (n / 65536) as u16);
-        put2(frame, at + 2, (n % 65536) as u16);
-    }
-}
-
 // The STL of stream i.
 fn stl(g: Given, i: u8) -> u16 {
     let n = g.nst;
@@ -74,8 +60,11 @@ fn put_table(frame: &mut [u8], g: Given) {
     let mut i: u8 = 0;
     while i < n {
         let s = stl(g, i);
-        let word = ((i % 63 + 1) as u32) * 67108864 + 54 * 65536 + 34 * 1024 + (s % 1024) as u32;
-        put4(frame, 8 + (i as usize) * 4, word);
+        let word = ((i % 63 + 1) as usize) * 67108864
+            + 54 * 65536
+            + 34 * 1024
+            + (s % 1024) as usize;
+        putting::put4(frame, 8 + (i as usize) * 4, word);
         i += 1;
     }
 }
@@ -85,7 +74,7 @@ fn words(g: Given) -> usize
     ensures { λ r. ⌜ r ≤ 33423402 ⌝ }
 {
     let n = g.nst;
-    let mut words = fic_words(g.ficf, g.mid);
+    let mut words = meaning::ficl(g.ficf, g.mid);
     let mut i: u8 = 0;
     while i < n {
         let s = stl(g, i);
@@ -93,15 +82,6 @@ fn words(g: Given) -> usize
         i += 1;
     }
     words
-}
-
-fn fic_words(ficf: u8, mid: u8) -> usize
-    ensures { λ r. ⌜ r ≤ 32 ⌝ }
-{
-    if ficf == 0 {
-        return 0;
-    }
-    if mid == 3 { 32 } else { 24 }
 }
 
 // The bytes from start up to end, with no order in their bits.
@@ -113,42 +93,32 @@ pub fn put_main(frame: &mut [u8], start: usize, end: usize) {
     }
 }
 
-// The sum of the bytes from start up to end, as many as there are.
-pub fn sum_between(frame: &[u8], start: usize, end: usize) -> u16 {
-    if start <= end {
-        if end <= frame.len() {
-            return sum::sum(&frame[start..end]);
-        }
-    }
-    0
-}
-
-fn fc(g: Given, fl: usize) -> u32 {
-    let fct = g.fct as u32;
-    let ficf = (g.ficf % 2) as u32;
-    let nst = (g.nst % 128) as u32;
-    let mid = (g.mid % 4) as u32;
-    fct * 16777216 + ficf * 8388608 + nst * 65536 + 5 * 8192 + mid * 2048 + (fl % 2048) as u32
+fn fc(g: Given, fl: usize) -> usize {
+    let fct = g.fct as usize;
+    let ficf = (g.ficf % 2) as usize;
+    let nst = (g.nst % 128) as usize;
+    let mid = (g.mid % 4) as usize;
+    fct * 16777216 + ficf * 8388608 + nst * 65536 + 5 * 8192 + mid * 2048 + fl % 2048
 }
 
 // The header, with MNSC 1234.
 fn put_header(frame: &mut [u8], g: Given, fl: usize) {
     let end = 8 + (g.nst as usize) * 4;
-    put4(frame, 0, g.sync);
-    put4(frame, 4, fc(g, fl));
+    putting::put4(frame, 0, g.sync as usize);
+    putting::put4(frame, 4, fc(g, fl));
     put_table(frame, g);
-    put2(frame, end, 0x1234);
-    let sum = sum_between(frame, 4, end + 2);
-    put2(frame, end + 2, sum ^ (g.header_off as u16));
+    putting::put2(frame, end, 0x1234);
+    let sum = sum::sum_between(frame, 4, end + 2);
+    putting::put2(frame, end + 2, sum ^ (g.header_off as u16));
 }
 
 // What follows the main stream: its sum, Rfu FFFF, Rfa FF, the timestamp.
 fn put_end(frame: &mut [u8], g: Given, start: usize, end: usize) {
     if end < 65536 {
-        let sum = sum_between(frame, start, end);
-        put2(frame, end, sum ^ (g.main_off as u16));
-        put2(frame, end + 2, 0xffff);
-        put4(frame, end + 4, 0xff000000 + g.time % 16777216);
+        let sum = sum::sum_between(frame, start, end);
+        putting::put2(frame, end, sum ^ (g.main_off as u16));
+        putting::put2(frame, end + 2, 0xffff);
+        putting::put4(frame, end + 4, 0xff000000 + (g.time % 16777216) as usize);
     }
 }
 

@@ -3,7 +3,6 @@ use frame::Fields;
 use frame::Stream;
 use frame::Timestamp;
 use workbench::build::put_main;
-use workbench::build::sum_between;
 use workbench::line;
 
 fn entry(scid: u8, sad: u16, tpl: u8, stl: u16) -> Stream {
@@ -210,7 +209,7 @@ fn refused() {
 fn prefix(bytes: &[u8], n: usize, expected: u16) {
     line::text(b"sum of the written frame's first ");
     line::number(n);
-    line::sum(b"", sum_between(bytes, 0, n), expected);
+    line::sum(b"", sum::sum_between(bytes, 0, n), expected);
 }
 
 // The whole frame's sum takes in the two sums inside, so it is the same for every header and main stream of these lengths:

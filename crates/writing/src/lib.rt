@@ -58,7 +58,7 @@ fn put_streams(out: &mut [u8], table: [Stream; 64], n: usize)
 {
     let mut i = 0;
     while i < n {
-        octets::put4(out, 8 + 4 * i, stream_word(table[i]));
+        putting::put4(out, 8 + 4 * i, stream_word(table[i]));
         i += 1;
     }
 }
@@ -98,7 +98,7 @@ fn fc_word(fct: u8, ficf: bool, count: usize, fp: u8, mid: u8, fl: usize) -> usi
     ensures { λ r. ⌜ r ≡ join fcWidths (fct ∷ digit ficf ∷ count ∷ fp ∷ mid ∷ fl ∷ []) ⌝ }
 {
     (fct as usize) * 16777216
-        + (fields::bit(ficf) as usize) * 8388608
+        + (meaning::bit(ficf) as usize) * 8388608
         + count * 65536
         + (fp as usize) * 8192
         + (mid as usize) * 2048
@@ -118,10 +118,10 @@ fn put_header(out: &mut [u8], x: Fields, fl: usize)
 {
     let count = x.count;
     let table = x.table;
-    octets::put4(out, 0, sync_word(x.level, x.fsync1));
-    octets::put4(out, 4, fc_word(x.fct, x.ficf, count, x.fp, x.mid, fl));
+    putting::put4(out, 0, sync_word(x.level, x.fsync1));
+    putting::put4(out, 4, fc_word(x.fct, x.ficf, count, x.fp, x.mid, fl));
     put_streams(out, table, count);
-    octets::put2(out, 8 + 4 * count, x.mnsc);
+    putting::put2(out, 8 + 4 * count, x.mnsc);
 }
 
 // What follows the main stream, whose sum is given.
@@ -130,9 +130,9 @@ fn put_end(out: &mut [u8], at: usize, x: Fields, sum: u16)
     ensures { λ _. ⌜ now (out .exit) ≡ put (now (out .entry)) at (split bytes2 sum ++ split bytes2 (x .rfu) ++ split bytes4 (join tistWidths (x .rfa ∷ timeBy (x .timestamp) ∷ []))) ⌝ }
 {
     let timestamp = x.timestamp;
-    octets::put2(out, at, sum);
-    octets::put2(out, at + 2, x.rfu);
-    octets::put4(out, at + 4, tist_word(x.rfa, timestamp));
+    putting::put2(out, at, sum);
+    putting::put2(out, at + 2, x.rfu);
+    putting::put4(out, at + 4, tist_word(x.rfa, timestamp));
 }
 
 fn fl(x: Fields) -> usize
@@ -142,7 +142,7 @@ fn fl(x: Fields) -> usize
     let count = x.count;
     let table = x.table;
     let seen = refusing::look_over(table, count);
-    count + 1 + fields::ficl(fields::bit(x.ficf), x.mid) + 2 * (seen.total as usize)
+    count + 1 + meaning::ficl(meaning::bit(x.ficf), x.mid) + 2 * (seen.total as usize)
 }
 
 fn fill(x: Fields, main: &[u8], out: &mut [u8])
@@ -152,7 +152,7 @@ fn fill(x: Fields, main: &[u8], out: &mut [u8])
     let end = 10 + 4 * x.count;
     put_header(out, x, fl(x));
     let sum = sum::sum_between(out, 4, end);
-    octets::put2(out, end, sum);
+    putting::put2(out, end, sum);
     put_main(out, end + 2, main);
     let next = end + 2 + main.len();
     let main_sum = sum::sum_between(out, end + 2, next);

@@ -5,7 +5,7 @@ use Rattle.entries.proofs.entry.Tie as tie
 
 returns : tie.Need-returns
 unfolding entryIn
-returns c = cc
+returns c = rw (c .two2 .ensures .0, c .before .before .two .ensures .0)
 
 pub entry-spec : {M : Type 1} → statement M
 entry-spec =

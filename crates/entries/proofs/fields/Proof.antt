@@ -9,7 +9,10 @@ cast-t28 c = omega (arith, c .shared-slice-known10 .given 4)
 
 returns : tie.Need-returns
 unfolding fieldsIn
-returns c = cc
+returns c =
+    let two = c .before .before .before in
+    let table = two .before .before .before .before .before .before .before in
+    rw (c .before .before .two2 .ensures .0, two .two .ensures .0, table .table .ensures, table .before .timestamp .ensures, table .before .before .word .ensures .0)
 
 pub fields-spec : {M : Type 1} → statement M
 fields-spec =

@@ -1,3 +1,4 @@
+use mathlib.Core.Path.{_∙_}
 use native.Mathlib.Omega.{arith}
 use Rattle.fields.proofs.Beyond.{stream-beyond}
 use Rattle.frame.specs.Frame.{streamOf}
@@ -6,11 +7,11 @@ use Rattle.fields.proofs.entry.Statement.{statement}
 use Rattle.fields.proofs.entry.Tie as tie
 
 returns : tie.Need-returns
-returns c = cc (stream-beyond (c .before .before .before .args .frame .now) (c .before .before .before .args .i) (omega arith))
+returns c = c .stream .ensures ∙ stream-beyond (c .before .before .before .args .frame .now) (c .before .before .before .args .i) (omega arith)
 
 returns-2 : tie.Need-returns-2
 unfolding streamOf
-returns-2 c = cc
+returns-2 c = rw (c .stream2 .ensures, c .before .word .ensures .0)
 
 pub entry-spec : {M : Type 1} → statement M
 entry-spec =

@@ -6,7 +6,10 @@ use Rattle.fields.proofs.eof.Tie as tie
 
 returns : tie.Need-returns
 unfolding mainSumOf rfuOf
-returns c = record { sum = cc; rfu = cc (div-one (c .word .result)) }
+returns c =
+    let e = c .word .ensures .0 in
+    let n = c .before .before .fc .ensures .fl in
+    record { sum = rw (e, n); rfu = rw (← n, ← e, div-one (c .word .result)) }
 
 pub eof-spec : {M : Type 1} → statement M
 eof-spec =

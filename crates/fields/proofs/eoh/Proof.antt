@@ -6,7 +6,10 @@ use Rattle.fields.proofs.eoh.Tie as tie
 
 returns : tie.Need-returns
 unfolding mnscOf headerSumOf
-returns c = record { mnsc = cc; sum = cc (div-one (c .word .result)) }
+returns c =
+    let e = c .word .ensures .0 in
+    let n = c .before .before .fc .ensures .nst in
+    record { mnsc = rw (e, n); sum = rw (← n, ← e, div-one (c .word .result)) }
 
 pub eoh-spec : {M : Type 1} → statement M
 eoh-spec =

@@ -6,7 +6,9 @@ use Rattle.fields.proofs.fc.Tie as tie
 
 returns : tie.Need-returns
 unfolding fctOf ficfOf nstOf fpOf midOf flOf
-returns c = record { fct = cc; ficf = cc; nst = cc; fp = cc; mid = cc; fl = cc (div-one (c .word .result)) }
+returns c =
+    let e = c .word .ensures .0 in
+    record { fct = rw e; ficf = rw e; nst = rw e; fp = rw e; mid = rw e; fl = rw (← e, div-one (c .word .result)) }
 
 pub fc-spec : {M : Type 1} → statement M
 fc-spec =

@@ -6,7 +6,7 @@ use Rattle.fields.proofs.sync.Tie as tie
 
 returns : tie.Need-returns
 unfolding errOf fsyncOf
-returns c = record { err = cc; fsync = cc (div-one (c .word .result)) }
+returns c = let e = c .word .ensures .0 in record { err = rw e; fsync = rw (← e, div-one (c .word .result)) }
 
 pub sync-spec : {M : Type 1} → statement M
 sync-spec = tie.close (tie.spec (λ c κs. search needs) (λ c. search needs) (λ c. search needs) returns)

@@ -6,7 +6,10 @@ use Rattle.fields.proofs.tist.Tie as tie
 
 returns : tie.Need-returns
 unfolding rfaOf timeOf
-returns c = record { rfa = cc; time = cc (div-one (c .word .result)) }
+returns c =
+    let e = c .word .ensures .0 in
+    let n = c .before .before .fc .ensures .fl in
+    record { rfa = rw (e, n); time = rw (← n, ← e, div-one (c .word .result)) }
 
 pub tist-spec : {M : Type 1} → statement M
 tist-spec =

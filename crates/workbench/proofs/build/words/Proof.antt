@@ -9,8 +9,8 @@ Inv-loop g n words₀ i₀ words i = (i ≤ n) × (words ≤ 32 + 131070 * i)
 abbrev μ-loop : tie.MeasureT-loop
 μ-loop g n words₀ i₀ words i = n - i
 
-fic-words-requires : tie.Need-fic-words-requires Inv-loop μ-loop
-fic-words-requires c κs = search needs
+ficl-requires : tie.Need-ficl-requires Inv-loop μ-loop
+ficl-requires c κs = search needs
 
 loop-holds : tie.Need-loop-holds Inv-loop μ-loop
 loop-holds c = search needs
@@ -45,7 +45,7 @@ words-spec =
     (tie.spec
     Inv-loop
     μ-loop
-    fic-words-requires
+    ficl-requires
     loop-holds
     stl-requires
     cast-words
