@@ -1,5 +1,6 @@
 //! One case through the proved exports and through this implementation.
 
+mod chains;
 mod signals;
 
 use crate::abi;
@@ -38,6 +39,11 @@ pub struct Tally {
     pub numbers: [u64; 14],
     /// Items done, frames and lost marks.
     pub items: [u64; 3],
+    pub chains: u64,
+    /// Over all chains: the relays, those that met a wrong sum, and the chains in which nothing was damaged.
+    pub relays: u64,
+    pub wrong_sums: u64,
+    pub undamaged: u64,
     pub signals: u64,
     /// Messages, at 0, and drops and refusals of signalling by their number.
     pub signal_numbers: [u64; 37],
@@ -51,6 +57,10 @@ impl Default for Tally {
             records: 0,
             numbers: [0; 14],
             items: [0; 3],
+            chains: 0,
+            relays: 0,
+            wrong_sums: 0,
+            undamaged: 0,
             signals: 0,
             signal_numbers: [0; 37],
         }
@@ -64,6 +74,10 @@ impl AddAssign<&Tally> for Tally {
         self.records += other.records;
         add_each(&mut self.numbers, &other.numbers);
         add_each(&mut self.items, &other.items);
+        self.chains += other.chains;
+        self.relays += other.relays;
+        self.wrong_sums += other.wrong_sums;
+        self.undamaged += other.undamaged;
         self.signals += other.signals;
         add_each(&mut self.signal_numbers, &other.signal_numbers);
     }
@@ -97,6 +111,7 @@ pub fn check(sort: Sort, seed: u64, number: u64, tally: &mut Tally) -> Checked<(
         Sort::Writing => case.writing(),
         Sort::Record => case.record(),
         Sort::Signals => case.signals(),
+        Sort::Chain => case.chain(),
     }
 }
 
@@ -430,7 +445,7 @@ impl Case<'_> {
         Ok(inside)
     }
 
-    fn same<T: PartialEq + Debug>(&self, what: &str, proved: &T, own: &T) -> Checked<()> {
+    fn same<T: PartialEq + Debug + ?Sized>(&self, what: &str, proved: &T, own: &T) -> Checked<()> {
         if proved == own {
             return Ok(());
         }
