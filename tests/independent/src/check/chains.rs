@@ -21,6 +21,9 @@ impl Case<'_> {
             self.read_behind(&chain.first, &hops)?;
         }
         self.count_chain(&chain.first, &hops);
+        let end = hops.last().map_or(&chain.first, |hop| &hop.left);
+        self.fic(end)?;
+        self.streams(end)?;
         let told = sentences(&chain.first, &hops);
         self.same("the customer's sentences", &told, &Ok(()))
     }
@@ -31,13 +34,16 @@ impl Case<'_> {
         self.tally.undamaged += u64::from(undamaged(first, hops));
     }
 
-    /// What a relay leaves, byte for byte, whatever its output held.
+    /// What a relay leaves, byte for byte, whatever its output held. It never refuses.
     fn never_refused(&mut self, arrived: &[u8]) -> Checked<Vec<u8>> {
         let mut out = vec![0; FRAME];
-        self.same("number of a relay's own", &relay(arrived, &mut out), &0)?;
-        self.fresh("relay of a chain", FRAME, Ok(out), |out| {
+        let number = relay(arrived, &mut out);
+        let expected = if number == 0 { Ok(out) } else { Err(number) };
+        let left = self.fresh("relay of a chain", FRAME, expected, |out| {
             abi::relay(arrived, out)
-        })
+        })?;
+        self.same("number of a relay of a chain", &number, &0)?;
+        Ok(left)
     }
 
     /// The proved reading of the frame that the last relay left: its level, and its sums, which are equal.
