@@ -52,7 +52,7 @@ fn options(mut arguments: impl Iterator<Item = String>) -> Result<Options, Strin
         frames: 200_000,
         records: 5_000,
         signals: 20_000,
-        chains: 2_000,
+        chains: 5_000,
         seconds: None,
     };
     while let Some(name) = arguments.next() {
