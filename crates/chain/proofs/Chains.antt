@@ -17,7 +17,7 @@ use Rattle.frame.proofs.Accepting.{acceptable, accepted}
 use Rattle.frame.proofs.Places.{status-placed}
 use Rattle.chain.specs.Chains.{Relay, Link, Chain, endOf, lastOf, Each, Some, levelIn, MetWrong, calledFor, worst, levelDue, LevelAtEnd, Passes, Unwashed, Undamaged, MainKept, SameParts}
 use Rattle.chain.proofs.Heads.{same-refusal, err-kept, nst-kept, ficl-kept, streams-kept}
-use Rattle.chain.proofs.Hops.{level-worse, level-handed, passes, nst-left, ficl-left, streams-left, same-parts}
+use Rattle.chain.proofs.Hops.{level-worse, Leaves, leaves, passes, same-parts}
 
 each : (P Q : Relay → Type 0) → ((r : Relay) → P r → Q r) → (rs : List Relay) → Each P rs → Each Q rs
 each P Q h [] p = tt
@@ -31,20 +31,22 @@ module _ (sent : List ℕ) (r : Relay) (z : refusalOf sent ≡ 0) (k : Link sent
   link-passes : Passes r
   link-passes = passes (r .arrived) (r .was) (r .left) (r .number) arrived-accepted (k .lent) (k .relayed)
 
+  hop : Leaves (r .arrived) (r .left)
+  hop = leaves (r .arrived) (r .was) (r .left) (r .number) arrived-accepted (k .lent) (k .relayed)
+
   -- the level behind it is the worse of the level before it and what the sum that it met calls for
   link-level : levelIn (r .left) ≡ max (levelIn sent) (calledFor r)
   link-level =
-      level-handed (r .arrived) (r .was) (r .left) (r .number) arrived-accepted (k .lent) (k .relayed)
+      hop .level
       ∙ level-worse (r .arrived)
       ∙ ap (λ (e : ℕ). max (placeIn statuses e) (calledFor r)) (err-kept sent (r .arrived) (k .way))
 
   link-parts : mainOf (r .arrived) ≡ mainOf sent → SameParts sent (r .left)
   link-parts e =
-      let a = r .arrived in
       same-parts sent (r .left) z (link-passes .accepted)
-      (nst-left a (r .was) (r .left) (r .number) arrived-accepted (k .lent) (k .relayed) ∙ nst-kept sent a (k .way))
-      (ficl-left a (r .was) (r .left) (r .number) arrived-accepted (k .lent) (k .relayed) ∙ ficl-kept sent a (k .way))
-      (streams-left a (r .was) (r .left) (r .number) arrived-accepted (k .lent) (k .relayed) ∙ streams-kept sent a (k .way))
+      (hop .nst ∙ nst-kept sent (r .arrived) (k .way))
+      (hop .ficl ∙ ficl-kept sent (r .arrived) (k .way))
+      (hop .streams ∙ streams-kept sent (r .arrived) (k .way))
       (link-passes .main ∙ e)
 
 -- ---- NO RELAY REFUSES

@@ -61,7 +61,7 @@ module _ (f g : List ℕ) (a : Arrives f g) where
   unfolding midOf
   mid-kept = ap (λ (w : ℕ). getD (split fcWidths w) 4 0) fc-kept
 
-  pub fl-kept : flOf g ≡ flOf f
+  fl-kept : flOf g ≡ flOf f
   unfolding flOf
   fl-kept = ap (λ (w : ℕ). getD (split fcWidths w) 5 0) fc-kept
 

@@ -42,13 +42,16 @@ pub none : (f : List ℕ) (o : ℕ) → refusalOf f ≡ 0 → o ≡ 6144 → rel
 unfolding relayRefusalOf
 none f o z l = first-zero (rulesOf f) ((1 when not (eqb o 6144)) ∷ []) (nothing f z) ∙ (rw l)
 
--- ---- what a relay leaves of an accepted frame
+-- ---- what a relay leaves of an accepted frame: the level handed on, and what tells where the parts lie
+pub record Leaves (f left : List ℕ) : Type 0 where
+  pub level : levelIn left ≡ levelOf f
+  pub nst : nstOf left ≡ nstOf f
+  pub ficl : ficlOf left ≡ ficlOf f
+  pub streams : streamsOf left ≡ streamsOf f
+
 module _ (f was left : List ℕ) (n : ℕ) (z : refusalOf f ≡ 0) (l : length was ≡ 6144) (r : Relays f was left n) where
   number : relayRefusalOf f (length was) ≡ 0
   number = none f (length was) z l
-
-  pub unrefused : n ≡ 0
-  unrefused = r .number ∙ number
 
   written : left ≡ frameIn (fieldsFor f) (mainOf f)
   written = r .output ∙ (rw (eq-eqb (relayRefusalOf f (length was)) 0 number))
@@ -57,7 +60,7 @@ module _ (f was left : List ℕ) (n : ℕ) (z : refusalOf f ≡ 0) (l : length w
   unfolding fieldsFor tableBy
   table-whole = simp (length-append, length-replicate) (omega (arith, streams-length f (nstOf f), acceptable f z .streams))
 
-  pub returned : Returned (fieldsFor f) (mainOf f) left
+  returned : Returned (fieldsFor f) (mainOf f) left
   returned =
       let w = writable (fieldsFor f) (length (mainOf f)) (length was) (number-for f z (length was) ∙ number) in
       subst (Returned (fieldsFor f) (mainOf f)) (sym written) (written-read (fieldsFor f) (mainOf f) w table-whole)
@@ -65,33 +68,27 @@ module _ (f was left : List ℕ) (n : ℕ) (z : refusalOf f ≡ 0) (l : length w
   g : Agree left (fieldsFor f)
   g = agree left (fieldsFor f) (returned .values)
 
-  pub level-handed : levelIn left ≡ levelOf f
+  pub leaves : Leaves f left
   unfolding fieldsFor headerFor
-  level-handed = sym (clean-level left (returned .clean)) ∙ g .level
+  leaves =
+      record {
+        level = sym (clean-level left (returned .clean)) ∙ g .level;
+        nst = g .nst;
+        ficl = ap₂ ficlBy (g .ficf ∙ digit-of (ficfOf f) (ficf-lt f)) (g .mid);
+        streams = returned .streams ∙ entries-for f z;
+      }
 
   pub passes : Passes (record { arrived = f; was = was; left = left; number = n })
   unfolding headerFor
   passes =
       record {
-        number = unrefused;
+        number = r .number ∙ number;
         accepted = returned .number;
-        level = level-handed;
+        level = leaves .level;
         read = clean-level left (returned .clean);
         sums = sym (returned .clean .sum);
         main = returned .main;
       }
-
-  -- what tells where the parts lie
-  pub nst-left : nstOf left ≡ nstOf f
-  unfolding fieldsFor headerFor
-  nst-left = g .nst
-
-  pub ficl-left : ficlOf left ≡ ficlOf f
-  unfolding fieldsFor headerFor
-  ficl-left = ap₂ ficlBy (g .ficf ∙ digit-of (ficfOf f) (ficf-lt f)) (g .mid)
-
-  pub streams-left : streamsOf left ≡ streamsOf f
-  streams-left = returned .streams ∙ entries-for f z
 
 -- ---- two accepted frames with the same entries, FIC length and main stream
 module _ (f h : List ℕ) (z : refusalOf f ≡ 0) (y : refusalOf h ≡ 0) (nst : nstOf h ≡ nstOf f) (ficl : ficlOf h ≡ ficlOf f) (streams : streamsOf h ≡ streamsOf f) (main : mainOf h ≡ mainOf f) where
