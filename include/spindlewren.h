@@ -101,6 +101,10 @@ uint8_t spindlewren_begin(size_t limit, uint8_t *walk, size_t walk_len);
 /* One step of a walk over a record: the walk's bytes then hold the advanced state and its item. */
 uint8_t spindlewren_step(const uint8_t *record, size_t record_len, uint8_t *walk, size_t walk_len);
 
+/* The frame read and written again into `out`, of SPINDLEWREN_FRAME bytes, with the level that reading hands on: what a relay sends on.
+   Reading's number, then 1 for an output of another length. In an archive of its own: tools/archive relays. */
+uint8_t spindlewren_relay(const uint8_t *frame, size_t frame_len, uint8_t *out, size_t out_len);
+
 /* The number in `width` bytes from `at` on, high byte first. */
 static inline uint64_t spindlewren_number(const uint8_t *bytes, size_t at, size_t width) {
     uint64_t n = 0;

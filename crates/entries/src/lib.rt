@@ -1,4 +1,4 @@
-// The sum, writing, relaying and a walk's n-th item on byte slices, for programs in other languages that test and measure them.
+// The sum, writing and a walk's n-th item on byte slices, for programs in other languages that test and measure them.
 ghost use mathlib.Core.List.{[], _∷_};
 ghost use mathlib.Core.Path.{_≡_};
 ghost use Prim.Native.Nat.{_+_, _*_, _<_};
@@ -6,7 +6,6 @@ ghost use lib.ListN.{length};
 ghost use Rattle.sum.specs.Sum.{sumOf};
 ghost use Rattle.octets.specs.Stores.{put};
 ghost use Rattle.frame.specs.Answers.{tableBy, timestampBy};
-ghost use Rattle.relay.specs.Relaying.{Relays};
 ghost use Rattle.walker.specs.Advance.{itemOf};
 ghost use Rattle.controller.specs.Boundary.{Limited};
 ghost use Rattle.entries.specs.Entered.{entryIn, entriesTo, fieldsIn, Entered};
@@ -92,14 +91,6 @@ pub extern "C" fn spindlewren_write(given: &[u8], main: &[u8], out: &mut [u8]) -
         return 1;
     }
     writing::write(fields(given), main, out)
-}
-
-// Reading's refusal, then 1 for an output of another length; otherwise the frame is written again into the output.
-#[no_mangle]
-pub extern "C" fn spindlewren_relay(frame: &[u8], out: &mut [u8]) -> u8
-    ensures { λ r. ⌜ Relays (now (frame .entry)) (now (out .entry)) (now (out .exit)) r ⌝ }
-{
-    relay::relay(frame, out)
 }
 
 fn put_two(out: &mut [u8], kind: u8, number: u8)

@@ -23,6 +23,7 @@ pub const DONE_ITEM: u8 = 3;
 
 #[link(name = "controller", kind = "static")]
 #[link(name = "entries", kind = "static")]
+#[link(name = "relays", kind = "static")]
 #[link(name = "signals", kind = "static")]
 extern "C" {
     fn spindlewren_read(

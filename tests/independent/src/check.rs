@@ -1,5 +1,6 @@
 //! One case through the proved exports and through this implementation.
 
+mod chains;
 mod signals;
 
 use crate::abi;
@@ -42,6 +43,11 @@ pub struct Tally {
     pub items: [u64; 4],
     /// Locks lost, by the walk's limit; at 0, limits refused.
     pub limits: [u64; 9],
+    pub chains: u64,
+    /// Over all chains: the relays, those that met a wrong sum, and the chains in which nothing was damaged.
+    pub relays: u64,
+    pub wrong_sums: u64,
+    pub undamaged: u64,
     pub signals: u64,
     /// Messages, at 0, and drops and refusals of signalling by their number.
     pub signal_numbers: [u64; 37],
@@ -56,6 +62,10 @@ impl Default for Tally {
             numbers: [0; 14],
             items: [0; 4],
             limits: [0; 9],
+            chains: 0,
+            relays: 0,
+            wrong_sums: 0,
+            undamaged: 0,
             signals: 0,
             signal_numbers: [0; 37],
         }
@@ -70,6 +80,10 @@ impl AddAssign<&Tally> for Tally {
         add_each(&mut self.numbers, &other.numbers);
         add_each(&mut self.items, &other.items);
         add_each(&mut self.limits, &other.limits);
+        self.chains += other.chains;
+        self.relays += other.relays;
+        self.wrong_sums += other.wrong_sums;
+        self.undamaged += other.undamaged;
         self.signals += other.signals;
         add_each(&mut self.signal_numbers, &other.signal_numbers);
     }
@@ -103,6 +117,7 @@ pub fn check(sort: Sort, seed: u64, number: u64, tally: &mut Tally) -> Checked<(
         Sort::Writing => case.writing(),
         Sort::Record => case.record(),
         Sort::Signals => case.signals(),
+        Sort::Chain => case.chain(),
     }
 }
 
@@ -503,7 +518,7 @@ impl Case<'_> {
         Ok(inside)
     }
 
-    fn same<T: PartialEq + Debug>(&self, what: &str, proved: &T, own: &T) -> Checked<()> {
+    fn same<T: PartialEq + Debug + ?Sized>(&self, what: &str, proved: &T, own: &T) -> Checked<()> {
         if proved == own {
             return Ok(());
         }

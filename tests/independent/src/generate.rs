@@ -1,5 +1,6 @@
-//! Seeded cases: frames, field sets for writing, records, and frames with signalling.
+//! Seeded cases: frames, field sets for writing, records, frames with signalling, and chains of relays.
 
+pub mod chains;
 pub mod frames;
 pub mod records;
 pub mod signals;
@@ -12,6 +13,7 @@ pub enum Sort {
     Writing = 2,
     Record = 3,
     Signals = 4,
+    Chain = 5,
 }
 
 /// Splitmix64.

@@ -2,6 +2,7 @@
 
 #[cfg(feature = "proved")]
 pub mod abi;
+pub mod chain;
 #[cfg(feature = "proved")]
 pub mod check;
 pub mod frame;

@@ -7,7 +7,7 @@ use std::thread;
 use std::time::{Duration, Instant};
 
 const USAGE: &str =
-    "usage: compare [--seed N] [--frames N] [--records N] [--signals N] [--seconds N]";
+    "usage: compare [--seed N] [--frames N] [--records N] [--signals N] [--chains N] [--seconds N]";
 const THREADS: u64 = 2;
 /// A message, and the numbers that signalling tells or refuses with.
 const SIGNAL_NUMBERS: [usize; 7] = [0, 1, 12, 24, 25, 26, 36];
@@ -17,6 +17,7 @@ struct Options {
     frames: u64,
     records: u64,
     signals: u64,
+    chains: u64,
     /// Rounds go on until the time is up.
     seconds: Option<u64>,
 }
@@ -51,6 +52,7 @@ fn options(mut arguments: impl Iterator<Item = String>) -> Result<Options, Strin
         frames: 200_000,
         records: 5_000,
         signals: 20_000,
+        chains: 5_000,
         seconds: None,
     };
     while let Some(name) = arguments.next() {
@@ -61,6 +63,7 @@ fn options(mut arguments: impl Iterator<Item = String>) -> Result<Options, Strin
             "--frames" => options.frames = value,
             "--records" => options.records = value,
             "--signals" => options.signals = value,
+            "--chains" => options.chains = value,
             "--seconds" => options.seconds = Some(value),
             _ => return Err(format!("{name} is not known")),
         }
@@ -112,6 +115,7 @@ fn part(seed: u64, options: &Options, thread: u64) -> Result<Tally, Found> {
         (Sort::Frame, options.frames),
         (Sort::Writing, options.frames),
         (Sort::Signals, options.signals),
+        (Sort::Chain, options.chains),
     ];
     for (sort, count) in sorts {
         for case in (thread..count).step_by(THREADS as usize) {
@@ -141,6 +145,16 @@ fn report(tally: &Tally) -> ExitCode {
     for number in SIGNAL_NUMBERS {
         let count = tally.signal_numbers[number];
         println!("signalling, number {number}: {count} times");
+        never |= count == 0;
+    }
+    let chains = [
+        ("chains", tally.chains),
+        ("relays in chains", tally.relays),
+        ("wrong sums met in chains", tally.wrong_sums),
+        ("chains without damage", tally.undamaged),
+    ];
+    for (what, count) in chains {
+        println!("{what} {count}");
         never |= count == 0;
     }
     let counts = [&tally.numbers[..], &tally.items, &tally.limits];

@@ -1,0 +1,4 @@
+pub mod Heads
+pub mod Hops
+pub mod Chains
+pub mod CanBeMet

@@ -1,0 +1,1 @@
+// Chains of relays: definitions in specs/, laws in proofs/.
