@@ -1,5 +1,9 @@
 //! Times the proved exports beside the independent implementation, round by round in turn.
 
+mod hunting;
+#[cfg(feature = "memmem")]
+mod memmem;
+
 use independent::abi;
 use independent::frame::{read, Timestamp, EMPTY, FRAME};
 use independent::generate::{Random, Sort};
@@ -45,6 +49,7 @@ fn main() -> ExitCode {
     bench.readings();
     bench.sums();
     bench.print();
+    hunting::print(rounds);
     ExitCode::SUCCESS
 }
 

@@ -26,14 +26,19 @@ fn limits_outside_are_refused() {
 #[test]
 fn one_for_each_place_where_none_stands() {
     for limit in LIMITS {
-        assert_eq!(looks(&vec![0x55; 5 * FRAME], limit), Ok(4 * FRAME as u64 + 1));
+        assert_eq!(
+            looks(&vec![0x55; 5 * FRAME], limit),
+            Ok(4 * FRAME as u64 + 1)
+        );
     }
 }
 
 #[test]
 fn the_worst_record_known() {
     let record = WORST.repeat(5 * FRAME / 8);
-    assert!((0..4 * FRAME).step_by(8).all(|place| stands(&record, place)));
+    assert!((0..4 * FRAME)
+        .step_by(8)
+        .all(|place| stands(&record, place)));
     let places = (record.len() - FRAME + 1) as u64;
     let confirming = (record.len() - 2 * FRAME + 1) as u64;
     for limit in LIMITS {
