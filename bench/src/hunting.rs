@@ -7,12 +7,14 @@ use independent::generate::{Random, Sort};
 use independent::looks::looks;
 use independent::walk::{step, Item};
 use std::hint::black_box;
-use std::time::Instant;
+use std::time::{Duration, Instant};
 
 const HUNTED: usize = 4 << 20;
+/// Places that memmem searches for one word and then for the other.
+const BLOCK: usize = 16 << 10;
 const SIZES: [usize; 3] = [1 << 20, 4 << 20, 16 << 20];
-/// Runs of each in turn, for each round asked for; the least time counts, since other work only adds.
-const RUNS: usize = 10;
+/// The least time counts, since other work only adds.
+const ROUND: Duration = Duration::from_millis(100);
 /// The worst record known: a header without streams whose sum is the next place's sync word, so that a place stands every eight bytes.
 const WORST: [u8; 8] = [0xFF, 0x07, 0x3A, 0xB6, 0xEE, 0x00, 0xE0, 0x01];
 
@@ -21,10 +23,13 @@ pub fn print(rounds: usize) {
     growth(rounds);
 }
 
-/// The least nanoseconds of each, run in turn.
-fn least(runs: usize, timed: &mut [&mut dyn FnMut()]) -> Vec<f64> {
+/// The least nanoseconds of each, run in turn, so many times and for a tenth of a second for each round at least.
+fn least(rounds: usize, timed: &mut [&mut dyn FnMut()]) -> Vec<f64> {
     let mut least = vec![f64::INFINITY; timed.len()];
-    for _ in 0..runs {
+    let began = Instant::now();
+    let mut runs = 0;
+    while runs < rounds || began.elapsed() < ROUND * rounds as u32 {
+        runs += 1;
         for (least, run) in least.iter_mut().zip(timed.iter_mut()) {
             let began = Instant::now();
             run();
@@ -39,7 +44,10 @@ fn random(length: usize) -> Vec<u8> {
 }
 
 fn opponents(rounds: usize) {
-    println!("\n| hunting over 4 MiB, ns per byte, least | ours | plain Rust | memmem | ours / plain Rust | ours / memmem |");
+    println!(
+        "\n| hunting over 4 MiB, ns per byte, least | ours | plain Rust | memmem, two runs \
+         | memmem, blocks of 16 KiB | ours / the best of them |"
+    );
     println!("|---|---|---|---|---|---|");
     let frame = full_frame(3, false);
     let records = [
@@ -50,31 +58,42 @@ fn opponents(rounds: usize) {
         ("frames of one sync word", frame.repeat(HUNTED / FRAME)),
     ];
     for (what, record) in &records {
-        hunt(what, record, rounds * RUNS);
+        hunt(what, record, rounds);
     }
     if cfg!(not(feature = "memmem")) {
         println!("\nmemmem is left out: Debian's librust-memchr-dev is not there");
     }
 }
 
-fn hunt(what: &str, record: &[u8], runs: usize) {
+fn hunt(what: &str, record: &[u8], rounds: usize) {
     let end = record.len() - FRAME + 1;
     let mut ours = || assert_eq!(walked(record), 0);
     let mut plain = || assert_eq!(step(black_box(record), begun()).0, Item::Done(end));
-    #[cfg(feature = "memmem")]
-    let hunter = crate::memmem::Hunter::new();
-    #[cfg(feature = "memmem")]
-    let mut memmem = || assert!(hunter.hunt(black_box(record)).is_none());
-    #[cfg(not(feature = "memmem"))]
-    let mut memmem = || {};
-    let times = least(runs, &mut [&mut ours, &mut plain, &mut memmem]);
-    let [ours, plain, memmem] = [0, 1, 2].map(|n| times[n] / record.len() as f64);
-    print!("| {what} | {ours:.4} | {plain:.4} | ");
-    if cfg!(feature = "memmem") {
-        println!("{memmem:.4} | {:.2} | {:.2} |", ours / plain, ours / memmem);
-    } else {
-        println!("- | {:.2} | - |", ours / plain);
+    let mut whole = memmem(record, usize::MAX);
+    let mut blocks = memmem(record, BLOCK);
+    let timed: &mut [&mut dyn FnMut()] = &mut [&mut ours, &mut plain, &mut whole, &mut blocks];
+    let shown = if cfg!(feature = "memmem") { 4 } else { 2 };
+    let times = least(rounds, &mut timed[..shown]);
+    let best = times[1..].iter().copied().fold(f64::INFINITY, f64::min);
+    print!("| {what} |");
+    for n in 0..4 {
+        match times.get(n) {
+            Some(time) => print!(" {:.4} |", time / record.len() as f64),
+            None => print!(" - |"),
+        }
     }
+    println!(" {:.2} |", times[0] / best);
+}
+
+#[cfg(feature = "memmem")]
+fn memmem(record: &[u8], block: usize) -> impl FnMut() + '_ {
+    let hunter = crate::memmem::Hunter::new(block);
+    move || assert!(hunter.hunt(black_box(record)).is_none())
+}
+
+#[cfg(not(feature = "memmem"))]
+fn memmem(_record: &[u8], _block: usize) -> impl FnMut() + '_ {
+    || {}
 }
 
 fn growth(rounds: usize) {
@@ -111,7 +130,7 @@ fn grown(what: &str, record: &dyn Fn(usize) -> Vec<u8>, rounds: usize) {
             black_box(walked(&record));
         };
         let mut looks = || assert_eq!(counted(&record), count);
-        let times = least(2 * rounds, &mut [&mut walk, &mut looks]);
+        let times = least(rounds, &mut [&mut walk, &mut looks]);
         walks.push(format!("{:.4}", times[0] / size as f64));
         counts.push(format!("{:.4}", times[1] / size as f64));
     }
