@@ -1,8 +1,8 @@
 use native.Mathlib.Omega.{arith}
-use Rattle.sum.proofs.Between.{none-between, some-between}
+use Rattle.ring.proofs.Between.{none-between, some-between}
 use borrow.Author.Needs.{needs}
-use Rattle.sum.proofs.sum_between.Statement.{statement}
-use Rattle.sum.proofs.sum_between.Tie as tie
+use Rattle.ring.proofs.sum_between.Statement.{statement}
+use Rattle.ring.proofs.sum_between.Tie as tie
 
 returns : tie.Need-returns
 returns c = let s = c .before .before .before .args in none-between (s .bytes .now) (s .a) (s .e) (omega arith)
