@@ -103,7 +103,8 @@ fn long(start: u16, bytes: &[u8]) -> u16
     closed(w, bytes, n)
 }
 
-// The sum of the bytes lent, of every length. Under two rounds the ring gains nothing.
+// The sum of the bytes lent, of every length. Under two rounds the ring gains nothing. `..len` is the slice anew: handed on as it
+// came, it would be copied first, also for a few bytes.
 pub fn sum(bytes: &[u8]) -> u16
     ensures { λ r. ⌜ r ≡ sumOf (now (bytes .entry)) ⌝ }
 {
@@ -112,7 +113,7 @@ pub fn sum(bytes: &[u8]) -> u16
         return !stretch::few(0xffff, bytes);
     }
     if len < 512 {
-        return !stretch::fed(0xffff, bytes);
+        return !stretch::fed(0xffff, &bytes[..len]);
     }
     let n = len % 256;
     !long(stretch::fed(0xffff, &bytes[..n]), &bytes[n..])

@@ -134,13 +134,20 @@ pub fn few(start: u16, bytes: &[u8]) -> u16
     rest(words(start, bytes, n), bytes, n)
 }
 
+fn eights(start: u16, bytes: &[u8], n: usize) -> u16
+    requires { ⌜ (n ≤ length (now bytes)) × (n % 8 ≡ 0) ⌝ }
+    ensures { λ r. ⌜ ((s : Register) → start ≡ word s → r ≡ word (after s (take n (now (bytes .entry))))) ⌝ }
+{
+    if n < 48 {
+        return words(start, bytes, n);
+    }
+    turns(start, bytes, n - 32)
+}
+
 // The same, the quickest for some hundred bytes.
 pub fn fed(start: u16, bytes: &[u8]) -> u16
     ensures { λ r. ⌜ ((s : Register) → start ≡ word s → r ≡ word (after s (now (bytes .entry)))) ⌝ }
 {
-    if bytes.len() < 48 {
-        return few(start, bytes);
-    }
     let n = bytes.len() / 8 * 8;
-    rest(turns(start, bytes, n - 32), bytes, n)
+    rest(eights(start, bytes, n), bytes, n)
 }

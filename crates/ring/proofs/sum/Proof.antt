@@ -2,8 +2,10 @@
 -- Assumes nothing.
 use mathlib.Core.Path.{_≡_, refl, sym}
 use Prim.Native.Nat.{_%_, _≤_}
+use native.Mathlib.Nat.{le-refl}
 use borrow.Author.Needs.{needs}
 use lib.ListN.{length, take, length-take}
+use lib.Seq.{take-all}
 use Rattle.sum.specs.Sum.{ones, after, sumOf}
 use Rattle.sum.proofs.Laws.{inverse}
 use Rattle.ring.proofs.Turning.{whole}
@@ -16,7 +18,9 @@ returns c = rw (c .few .ensures ones refl) (sym (inverse (after ones (c .before 
 
 returns-2 : tie.Need-returns-2
 unfolding sumOf
-returns-2 c = rw (c .fed .ensures ones refl) (sym (inverse (after ones (c .before .before .before .before .args .bytes .now))))
+returns-2 c =
+    let xs = c .before .before .before .before .before .args .bytes .now in
+    rw (c .fed .ensures ones refl, take-all (length xs) xs (le-refl (length xs))) (sym (inverse (after ones xs)))
 
 returns-3 : tie.Need-returns-3
 unfolding sumOf
@@ -29,4 +33,4 @@ returns-3 c =
 pub sum-spec : {M : Type 1} → statement M
 sum-spec =
     tie.close
-    (tie.spec (λ c κs. search needs) returns (λ c κs. search needs) returns-2 (λ c. simp length-take (search needs)) (λ c κs. search needs) (λ c. search needs) (λ c. search needs) (λ c. search needs) (λ c κs. search needs) returns-3)
+    (tie.spec (λ c κs. search needs) returns (λ c. simp length-take (search needs)) (λ c κs. search needs) returns-2 (λ c. simp length-take (search needs)) (λ c κs. search needs) (λ c. search needs) (λ c. search needs) (λ c. search needs) (λ c κs. search needs) returns-3)
