@@ -24,7 +24,7 @@ same-word {r} {q} e = sym (load-word r) ∙ ap load e ∙ load-word q
 byte : {f : List ℕ → ℕ} → Linear xors f → (k : ℕ) → Linear xors (λ xs. f xs / 2 ^ k % 2 ^ 8)
 byte p k = then p (then (right k) (low 8))
 
-kept4 : {r : List ℕ → Register} {f : List ℕ → ℕ} → Kept r → Linear xors f → Kept (λ xs. after4 (r xs) (f xs))
+pub kept4 : {r : List ℕ → Register} {f : List ℕ → ℕ} → Kept r → Linear xors f → Kept (λ xs. after4 (r xs) (f xs))
 unfolding after4
 kept4 k p = fed (fed (fed (fed k (byte p 24)) (byte p 16)) (byte p 8)) (byte p 0)
 
@@ -114,3 +114,9 @@ unfolding after8 after4
 halves r xs i p q h e f =
     ap₂ (λ (m n : ℕ). after4 (after4 r m) n) (digits-div p h) (digits-mod p h)
     ∙ ap₂ (λ (ys zs : List ℕ). after (after r ys) zs) e (f ∙ ap (take 4) (sym (drop-drop 4 i xs))) ∙ sym (on r (drop i xs) 4 4)
+
+-- four bytes more, from the register's word
+pub four-on : (r : Register) (xs : List ℕ) (i w v z : ℕ) → split bytes4 z ≡ take 4 (drop i xs) → w ≡ word (after r (take i xs)) → v ≡ word (after4 (load w) z) → v ≡ word (after r (take (i + 4) xs))
+unfolding after4
+four-on r xs i w v z f e g =
+    g ∙ ap word (ap₂ after (ap load e ∙ load-word (after r (take i xs))) f ∙ sym (on r xs i 4))

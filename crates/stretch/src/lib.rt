@@ -5,7 +5,7 @@ ghost use Prim.Native.Nat.{_+_, _%_, _^_, _≤_, _<_};
 ghost use lib.ListN.{length, take, drop};
 ghost use Rattle.octets.specs.Words.{split, bytes4};
 ghost use Rattle.sum.specs.Sum.{Register, after, word, load};
-ghost use Rattle.stretch.specs.Stretch.{after8, Stands};
+ghost use Rattle.stretch.specs.Stretch.{after4, after8, Stands};
 
 fn four(b0: u8, b1: u8, b2: u8, b3: u8) -> u64
     ensures { λ r. ⌜ (r < 2 ^ 32) × (split bytes4 r ≡ b0 ∷ b1 ∷ b2 ∷ b3 ∷ []) ⌝ }
@@ -38,6 +38,17 @@ fn divide(crc: u16, z: u64) -> u16
     let u = t ^ (t >> 8) ^ ((t >> 22) ^ (t >> 32));
     let v = u ^ (u >> 16) ^ (u >> 44);
     let q = v ^ (v >> 32);
+    ((q ^ (q << 5) ^ (q << 12)) % 65536) as u16
+}
+
+// The same after half a word more.
+fn divide4(crc: u16, z: u64) -> u16
+    ensures { λ r. ⌜ (z < 2 ^ 32 → r ≡ word (after4 (load crc) z)) ⌝ }
+{
+    let p = ((crc as u64) << 16) ^ z;
+    let t = p ^ (p >> 4) ^ ((p >> 11) ^ (p >> 16));
+    let u = t ^ (t >> 8) ^ (t >> 22);
+    let q = u ^ (u >> 16);
     ((q ^ (q << 5) ^ (q << 12)) % 65536) as u16
 }
 
@@ -112,13 +123,24 @@ fn turns(start: u16, bytes: &[u8], n: usize) -> u16
     close(s, bytes, n)
 }
 
-// The others behind the first n, one by one.
+// Half a word more, from n up to m, or nothing.
+fn half(crc: u16, bytes: &[u8], n: usize, m: usize) -> u16
+    requires { ⌜ (n ≤ m) × (m ≤ length (now bytes)) × (n % 4 ≡ 0) × (m % 4 ≡ 0) × (m < n + 8) ⌝ }
+    ensures { λ r. ⌜ ((s : Register) → crc ≡ word (after s (take n (now (bytes .entry)))) → r ≡ word (after s (take m (now (bytes .entry))))) ⌝ }
+{
+    if n < m {
+        return divide4(crc, four_at(bytes, n));
+    }
+    crc
+}
+
+// The others behind the first n, whole words: half a word, then one by one.
 fn rest(start: u16, bytes: &[u8], n: usize) -> u16
-    requires { ⌜ n ≤ length (now bytes) ⌝ }
+    requires { ⌜ (n ≤ length (now bytes)) × (n % 8 ≡ 0) × (length (now bytes) < n + 8) ⌝ }
     ensures { λ r. ⌜ ((s : Register) → start ≡ word (after s (take n (now (bytes .entry)))) → r ≡ word (after s (now (bytes .entry)))) ⌝ }
 {
-    let mut crc = start;
-    let mut i = n;
+    let mut i = bytes.len() / 4 * 4;
+    let mut crc = half(start, bytes, n, i);
     while i < bytes.len() {
         crc = sum::step(crc, bytes[i]);
         i += 1;

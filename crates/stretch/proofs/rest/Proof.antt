@@ -13,14 +13,14 @@ use Rattle.stretch.proofs.rest.Statement.{statement}
 use Rattle.stretch.proofs.rest.Tie as tie
 
 abbrev Inv-loop : tie.InvT-loop
-Inv-loop start bytes n crc₀ i₀ crc i = (i ≤ length bytes) × ((s : Register) → start ≡ word (after s (take n bytes)) → crc ≡ word (after s (take i bytes)))
+Inv-loop start bytes n i₀ crc₀ i crc = (i ≤ length bytes) × ((s : Register) → start ≡ word (after s (take n bytes)) → crc ≡ word (after s (take i bytes)))
 
 abbrev μ-loop : tie.MeasureT-loop
-μ-loop start bytes n crc₀ i₀ crc i = length bytes - i
+μ-loop start bytes n i₀ crc₀ i crc = length bytes - i
 
 loop-again : tie.Need-loop-again Inv-loop μ-loop
 loop-again c =
-    let xs = c .before .before .before .before .before .args .bytes .now in
+    let xs = c .before .before .before .before .before .before .args .bytes .now in
     let at = c .before .before .before .loop in
     let i = at .i in
     let h : i < length xs = search needs in (
@@ -39,7 +39,9 @@ rest-spec =
     (tie.spec
     Inv-loop
     μ-loop
-    (λ c. (search needs, λ s e. e))
+    (λ c. search needs)
+    (λ c κs. search needs)
+    (λ c. (search needs, c .half .ensures))
     (λ c. search needs)
     (λ c κs. search needs)
     (λ c. search needs)
