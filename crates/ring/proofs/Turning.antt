@@ -4,7 +4,7 @@ use mathlib.Core.Path.{_≡_, refl, sym, ap, ap₂, _∙_}
 use mathlib.Core.List.{List, [], _∷_, _++_, append-assoc, append-nil}
 use mathlib.Core.Logic.{⊎-elim}
 use Prim.Native.Nat.{ℕ, _+_, _-_, _%_, _^_, _≤_, _<_}
-use native.Mathlib.Nat.{eq-zero-or-pos, le-refl}
+use native.Mathlib.Nat.{eq-zero-or-pos}
 use native.Mathlib.Numerals.{add-one}
 use native.Mathlib.Omega.{arith}
 use lib.Bits.{bitXor}
@@ -13,7 +13,6 @@ use lib.Seq.{drop-append-le, getD-append-add, drop-drop, take-all, take-suc, tak
 use Rattle.linear.proofs.Linear.{xors, nth}
 use Rattle.sum.specs.Sum.{Register, feed, after}
 use Rattle.sum.proofs.Laws.{after-append}
-use Rattle.stretch.proofs.Stretching.{on}
 use Rattle.ring.specs.Ring.{owed, turned, Same, Turn}
 use Rattle.ring.proofs.Feedback.{one-more}
 
@@ -92,9 +91,3 @@ turn-all w₀ bytes i w t r s =
     let e = t .long in
     let d : drop 256 w ≡ [] = drop-of-length-le w {i = 256} (omega arith) in
     rw (take-all 256 w (omega arith)) at (rw d at (t .stands r s))
-
--- the first n bytes, and all the others
-pub whole : (r : Register) (xs : List ℕ) (n : ℕ) → n ≤ length xs → after (after r (take n xs)) (take (length xs - n) (drop n xs)) ≡ after r xs
-whole r xs n h =
-    let e : n + (length xs - n) ≡ length xs = omega arith in
-    sym (on r xs n (length xs - n)) ∙ ap (λ (m : ℕ). after r (take m xs)) e ∙ ap (after r) (take-all (length xs) xs (le-refl (length xs)))

@@ -103,20 +103,27 @@ fn long(start: u16, bytes: &[u8]) -> u16
     closed(w, bytes, n)
 }
 
-// The sum of the bytes lent, of every length. Under two rounds the ring gains nothing. `..len` is the slice anew: handed on as it
-// came, it would be copied first, also for a few bytes.
-pub fn sum(bytes: &[u8]) -> u16
+// The sum of the bytes lent. Under two rounds the ring gains nothing.
+fn many(bytes: &[u8]) -> u16
     ensures { λ r. ⌜ r ≡ sumOf (now (bytes .entry)) ⌝ }
 {
     let len = bytes.len();
-    if len < 48 {
-        return !stretch::few(0xffff, bytes);
-    }
     if len < 512 {
         return !stretch::fed(0xffff, &bytes[..len]);
     }
     let n = len % 256;
     !long(stretch::fed(0xffff, &bytes[..n]), &bytes[n..])
+}
+
+// The sum of the bytes lent, of every length.
+pub fn sum(bytes: &[u8]) -> u16
+    ensures { λ r. ⌜ r ≡ sumOf (now (bytes .entry)) ⌝ }
+{
+    let len = bytes.len();
+    if len < 48 {
+        return !stretch::few(0xffff, &bytes[..len]);
+    }
+    many(&bytes[..len])
 }
 
 fn least(a: usize, b: usize) -> usize
@@ -133,5 +140,8 @@ pub fn sum_between(bytes: &[u8], a: usize, e: usize) -> u16
     if a >= end {
         return 0;
     }
-    sum(&bytes[a..end])
+    if end - a < 48 {
+        return !stretch::few(0xffff, &bytes[a..end]);
+    }
+    many(&bytes[a..end])
 }

@@ -2,13 +2,14 @@
 -- Assumes nothing.
 use mathlib.Core.Path.{_≡_, refl, sym, ap, ap₂, _∙_}
 use mathlib.Core.List.{List, [], _∷_}
-use Prim.Native.Nat.{ℕ, zero, suc, _+_, _*_, _/_, _%_, _^_, _≤_, _<_}
-use native.Mathlib.Nat.{suc-inj}
+use Prim.Native.Nat.{ℕ, zero, suc, _+_, _-_, _*_, _/_, _%_, _^_, _≤_, _<_}
+use native.Mathlib.Nat.{le-refl, suc-inj}
+use native.Mathlib.Numerals.{add-one}
 use native.Mathlib.Omega.{arith}
 use lib.Arith.{digits-div, digits-mod}
 use lib.Bits.{bitXor, xor-zero-r, xor-lt}
-use lib.ListN.{length, take, drop, replicate, length-replicate}
-use lib.Seq.{take-add, drop-drop}
+use lib.ListN.{length, take, drop, getD, replicate, length-replicate}
+use lib.Seq.{take-add, take-suc, take-all, drop-drop}
 use Rattle.octets.specs.Words.{split, bytes4}
 use Rattle.linear.proofs.Linear.{Linear, xors, itself, right, left, low, then, xor, nth, none, more, agree}
 use Rattle.sum.specs.Sum.{Register, stages, bit, feed, after, word, load}
@@ -115,8 +116,24 @@ halves r xs i p q h e f =
     ap₂ (λ (m n : ℕ). after4 (after4 r m) n) (digits-div p h) (digits-mod p h)
     ∙ ap₂ (λ (ys zs : List ℕ). after (after r ys) zs) e (f ∙ ap (take 4) (sym (drop-drop 4 i xs))) ∙ sym (on r (drop i xs) 4 4)
 
--- four bytes more, from the register's word
-pub four-on : (r : Register) (xs : List ℕ) (i w v z : ℕ) → split bytes4 z ≡ take 4 (drop i xs) → w ≡ word (after r (take i xs)) → v ≡ word (after4 (load w) z) → v ≡ word (after r (take (i + 4) xs))
+-- the first four bytes, from the register's word
+pub four-on : (r : Register) (xs : List ℕ) (w v z : ℕ) → split bytes4 z ≡ take 4 xs → w ≡ word r → v ≡ word (after4 (load w) z) → v ≡ word (after r (take 4 xs))
 unfolding after4
-four-on r xs i w v z f e g =
-    g ∙ ap word (ap₂ after (ap load e ∙ load-word (after r (take i xs))) f ∙ sym (on r xs i 4))
+four-on r xs w v z f e g = g ∙ ap word (ap₂ after (ap load e ∙ load-word r) f)
+
+-- one byte more, and two
+pub byte-on : (r : Register) (xs : List ℕ) (i : ℕ) → i < length xs → after r (take (i + 1) xs) ≡ feed (after r (take i xs)) (getD xs i 0)
+byte-on r xs i h = rw (add-one i, take-suc xs i 0 h) (after-append r (take i xs) (getD xs i 0 ∷ []))
+
+pub two-on : (r : Register) (xs : List ℕ) (i w v : ℕ) → i + 1 < length xs → w ≡ word (after r (take i xs)) → v ≡ word (feed (feed (load w) (getD xs i 0)) (getD xs (i + 1) 0)) → v ≡ word (after r (take (i + 2) xs))
+two-on r xs i w v h e g =
+    let two : i + 2 ≡ i + 1 + 1 = omega arith in
+    g ∙ ap (λ (q : Register). word (feed (feed q (getD xs i 0)) (getD xs (i + 1) 0))) (ap load e ∙ load-word (after r (take i xs)))
+    ∙ ap (λ (q : Register). word (feed q (getD xs (i + 1) 0))) (sym (byte-on r xs i (omega arith))) ∙ ap word (sym (byte-on r xs (i + 1) h))
+    ∙ ap (λ (n : ℕ). word (after r (take n xs))) (sym two)
+
+-- the first n bytes, and all the others
+pub whole : (r : Register) (xs : List ℕ) (n : ℕ) → n ≤ length xs → after (after r (take n xs)) (take (length xs - n) (drop n xs)) ≡ after r xs
+whole r xs n h =
+    let e : n + (length xs - n) ≡ length xs = omega arith in
+    sym (on r xs n (length xs - n)) ∙ ap (λ (m : ℕ). after r (take m xs)) e ∙ ap (after r) (take-all (length xs) xs (le-refl (length xs)))

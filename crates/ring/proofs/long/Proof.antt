@@ -5,8 +5,8 @@ use Prim.Native.Nat.{_-_, _≤_}
 use borrow.Author.Needs.{needs}
 use lib.ListN.{length, take}
 use Rattle.sum.specs.Sum.{after, word}
+use Rattle.stretch.proofs.Stretching.{whole}
 use Rattle.ring.proofs.Feedback.{begun}
-use Rattle.ring.proofs.Turning.{whole}
 use Rattle.ring.proofs.long.Statement.{statement}
 use Rattle.ring.proofs.long.Tie as tie
 
