@@ -65,15 +65,29 @@ begun r w h e =
     same-word (agree (read (kept8 (loaded (nth 0)) nought)) (read (kept8 at-blank (then (nth 0) (left 64 48)))) (16 ∷ []) refl (w ∷ []) (more h none)) in
     ap (λ (q : Register). afters q (0 ∷ 0 ∷ 0 ∷ 0 ∷ [])) (sym (ap load e ∙ load-word r)) ∙ ap (λ (q : Register). afters q (0 ∷ 0 ∷ 0 ∷ [])) first
 
--- the one computed fact: a word that comes first may go, added to what follows 8, 22 and 32 bytes on
-gone : (q b c d : ℕ) → q < 2 ^ 64 → b < 2 ^ 64 → c < 2 ^ 64 → d < 2 ^ 64
-    → afters blank (q ∷ b ∷ c ∷ d ∷ 0 ∷ []) ≡ afters blank (bitXor b q ∷ bitXor c (q / 2 ^ 48) ∷ bitXor d (q * 2 ^ 16 % 2 ^ 64) ∷ q ∷ [])
+-- the one computed fact: a word, alone, may go, added to those 8, 22 and 32 bytes on
+alone : (q : ℕ) → q < 2 ^ 64 → afters blank (q ∷ 0 ∷ 0 ∷ 0 ∷ 0 ∷ []) ≡ afters blank (q ∷ q / 2 ^ 48 ∷ q * 2 ^ 16 % 2 ^ 64 ∷ q ∷ [])
 unfolding after8 after4 load bit
-gone q b c d h i j k =
+alone q h =
     same-word
-    (agree (read (kept8 (kept8 (kept8 (kept8 (kept8 at-blank (nth 0)) (nth 1)) (nth 2)) (nth 3)) nought))
-    (read (kept8 (kept8 (kept8 (kept8 at-blank (xor (nth 1) (nth 0))) (xor (nth 2) (then (nth 0) (right 48)))) (xor (nth 3) (then (nth 0) (left 64 16)))) (nth 0)))
-    (64 ∷ 64 ∷ 64 ∷ 64 ∷ []) refl (q ∷ b ∷ c ∷ d ∷ []) (more h (more i (more j (more k none)))))
+    (agree (read (kept8 (kept8 (kept8 (kept8 (kept8 at-blank (nth 0)) nought) nought) nought) nought))
+    (read (kept8 (kept8 (kept8 (kept8 at-blank (nth 0)) (then (nth 0) (right 48))) (then (nth 0) (left 64 16))) (nth 0)))
+    (64 ∷ []) refl (q ∷ []) (more h none))
+
+blank-on : after8 blank 0 ≡ blank
+unfolding after8 after4 load bit
+blank-on = refl
+
+-- so it may go before others
+gone : (q b c d : ℕ) → q < 2 ^ 64
+    → afters blank (q ∷ b ∷ c ∷ d ∷ 0 ∷ []) ≡ afters blank (bitXor b q ∷ bitXor c (q / 2 ^ 48) ∷ bitXor d (q * 2 ^ 16 % 2 ^ 64) ∷ q ∷ [])
+gone q b c d h =
+    let apart = afters-xor blank blank (0 ∷ b ∷ c ∷ d ∷ 0 ∷ []) (q ∷ 0 ∷ 0 ∷ 0 ∷ 0 ∷ []) refl in
+    ap (λ (r : Register). afters r (q ∷ b ∷ c ∷ d ∷ 0 ∷ [])) (sym (xor-blank blank))
+    ∙ (rw (xor-zero-r b, xor-zero-r c, xor-zero-r d) at apart)
+    ∙ ap₂ _⊞_ (ap (λ (r : Register). afters r (b ∷ c ∷ d ∷ 0 ∷ [])) blank-on) (alone q h)
+    ∙ sym (afters-xor blank blank (b ∷ c ∷ d ∷ 0 ∷ []) (q ∷ q / 2 ^ 48 ∷ q * 2 ^ 16 % 2 ^ 64 ∷ q ∷ []) refl)
+    ∙ ap (λ (r : Register). afters r (bitXor b q ∷ bitXor c (q / 2 ^ 48) ∷ bitXor d (q * 2 ^ 16 % 2 ^ 64) ∷ q ∷ [])) (xor-blank blank)
 
 -- a register that stands so many words ahead where a blank one stands after xs, and fed ys, is where a blank one is after both, added
 ahead : (r : Register) (xs ys : List ℕ) → afters r (replicate (length ys) 0) ≡ afters blank xs → length xs ≡ length ys → afters r ys ≡ afters blank (xors xs ys)
@@ -83,12 +97,12 @@ ahead r xs ys h e =
 
 module _ (r : Register) (s : Stretched) (h : Stands r s) where
   -- a turn
-  pub turned : (z : ℕ) → s .a < 2 ^ 64 → s .b < 2 ^ 64 → s .c < 2 ^ 64 → s .d < 2 ^ 64 → z < 2 ^ 64
+  pub turned : (z : ℕ) → s .a < 2 ^ 64 → z < 2 ^ 64
       → Stands (after8 r z) (record { a = bitXor (s .b) (bitXor (s .a) z); b = bitXor (s .c) (bitXor (s .a) z / 2 ^ 48); c = bitXor (s .d) (bitXor (s .a) z * 2 ^ 16 % 2 ^ 64); d = bitXor (s .a) z })
-  turned z i j k l m = record {
+  turned z i j = record {
     ahead =
         ahead r (s .a ∷ s .b ∷ s .c ∷ s .d ∷ 0 ∷ []) (z ∷ 0 ∷ 0 ∷ 0 ∷ 0 ∷ []) (ap (λ (q : Register). after8 q 0) (h .ahead)) refl
-        ∙ rw (xor-zero-r (s .b), xor-zero-r (s .c), xor-zero-r (s .d)) (gone (bitXor (s .a) z) (s .b) (s .c) (s .d) (xor-lt 64 (s .a) z i m) j k l);
+        ∙ rw (xor-zero-r (s .b), xor-zero-r (s .c), xor-zero-r (s .d)) (gone (bitXor (s .a) z) (s .b) (s .c) (s .d) (xor-lt 64 (s .a) z i j));
   }
 
   -- the end

@@ -6,7 +6,7 @@ use Rattle.stretch.proofs.turn.Statement.{statement}
 use Rattle.stretch.proofs.turn.Tie as tie
 
 returns : tie.Need-returns
-returns c = λ q h. let x = c .before .before .before .before .args in turned q (x .s) h (x .z) (search needs) (search needs) (search needs) (search needs) (search needs)
+returns c = λ q h. let x = c .before .before .before .before .args in turned q (x .s) h (x .z) (search needs) (search needs)
 
 pub turn-spec : {M : Type 1} → statement M
 turn-spec =
