@@ -22,6 +22,7 @@ pub const IDLE_ITEM: u8 = 2;
 pub const DONE_ITEM: u8 = 3;
 
 #[link(name = "controller", kind = "static")]
+#[link(name = "boot", kind = "static")]
 #[link(name = "entries", kind = "static")]
 #[link(name = "relays", kind = "static")]
 #[link(name = "signals", kind = "static")]
@@ -49,6 +50,7 @@ extern "C" {
     fn spindlewren_step(record: *const u8, record_len: usize, walk: *mut u8, walk_len: usize)
         -> u8;
     fn spindlewren_sum(bytes: *const u8, bytes_len: usize) -> u16;
+    fn spindlewren_boot_sum(bytes: *const u8, bytes_len: usize) -> u16;
     fn spindlewren_write(
         fields: *const u8,
         fields_len: usize,
@@ -129,6 +131,11 @@ pub fn step(record: &[u8], walk: &mut [u8]) -> u8 {
 
 pub fn sum(bytes: &[u8]) -> u16 {
     unsafe { spindlewren_sum(bytes.as_ptr(), bytes.len()) }
+}
+
+/// The boot loader's, which is the small one.
+pub fn boot_sum(bytes: &[u8]) -> u16 {
+    unsafe { spindlewren_boot_sum(bytes.as_ptr(), bytes.len()) }
 }
 
 pub fn write(fields: &[u8], main: &[u8], out: &mut [u8]) -> u8 {

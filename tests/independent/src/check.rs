@@ -147,7 +147,9 @@ impl Case<'_> {
         let end = self.random.within(0, bytes.len());
         let start = self.random.within(0, end);
         let part = &bytes[start..end];
-        self.same("sum", &abi::sum(part), &sum(part))
+        let expected = sum(part);
+        self.same("boot loader's sum", &abi::boot_sum(part), &expected)?;
+        self.same("sum", &abi::sum(part), &expected)
     }
 
     fn read(&mut self, frame: &[u8], reading: Result<Reading, u8>) -> Checked<Vec<u8>> {
