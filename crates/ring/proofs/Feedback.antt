@@ -3,7 +3,7 @@
 use mathlib.Core.Path.{_≡_, refl, sym, ap, ap₂, subst, _∙_}
 use mathlib.Core.List.{List, [], _∷_, _++_}
 use Prim.Native.Nat.{ℕ, suc, _/_, _%_, _^_, _≤_, _<_}
-use native.Mathlib.Nat.{le-of-suc-le-suc, not-suc-le-zero, suc-inj}
+use native.Mathlib.Nat.{add-comm, le-of-suc-le-suc, not-suc-le-zero, suc-inj}
 use native.Mathlib.Omega.{arith}
 use lib.Bits.{bitXor, xor-self, xor-zero-r}
 use lib.ListN.{length, take, drop, getD, replicate, length-drop}
@@ -15,21 +15,31 @@ use Rattle.sum.proofs.Bits.{⊕-self}
 use Rattle.sum.proofs.Shifts.{_⊞_, feed-xor, word-xor, load-word, loaded, fed, read}
 use Rattle.stretch.specs.Stretch.{blank}
 use Rattle.stretch.proofs.Stretching.{nought, same-word}
-use Rattle.ring.specs.Ring.{owed, Same}
+use Rattle.ring.specs.Ring.{tapped, owed, Same}
 use Rattle.ring.proofs.Lists.{xors-comm, xors-assoc, xors-cross, xors-drop, xors-first, length-xors, at, at-xor, snoc}
 
--- what is owed keeps exclusive or
+-- wherever the taps are, what is owed keeps exclusive or, and goes on place by place
+module _ (m n : ℕ) where
+  tapped-xor : (v w : List ℕ) → tapped m n (xors v w) ≡ xors (tapped m n v) (tapped m n w)
+  unfolding tapped
+  tapped-xor v w =
+      rw (xors-drop m v w, xors-drop n v w, xors-cross (drop m v) (drop m w) (drop n v) (drop n w))
+      (xors-cross v w (xors (drop m v) (drop n v)) (xors (drop m w) (drop n w)))
+
+  tapped-rest : (v : List ℕ) → drop 1 (tapped m n v) ≡ tapped m n (drop 1 v)
+  unfolding tapped
+  tapped-rest v =
+      let past : (k : ℕ) → drop 1 (drop k v) ≡ drop k (drop 1 v) =
+      λ k. drop-drop 1 k v ∙ ap (λ (j : ℕ). drop j v) (add-comm k 1) ∙ sym (drop-drop k 1 v) in
+      xors-drop 1 v (xors (drop m v) (drop n v)) ∙ ap (xors (drop 1 v)) (xors-drop 1 (drop m v) (drop n v) ∙ ap₂ xors (past m) (past n))
+
 owed-xor : (v w : List ℕ) → owed (xors v w) ≡ xors (owed v) (owed w)
 unfolding owed
-owed-xor v w =
-    rw (xors-drop 80 v w, xors-drop 192 v w, xors-cross (drop 80 v) (drop 80 w) (drop 192 v) (drop 192 w))
-    (xors-cross v w (xors (drop 80 v) (drop 192 v)) (xors (drop 80 w) (drop 192 w)))
+owed-xor = tapped-xor _ _
 
 owed-rest : (v : List ℕ) → drop 1 (owed v) ≡ owed (drop 1 v)
 unfolding owed
-owed-rest v =
-    xors-drop 1 v (xors (drop 80 v) (drop 192 v))
-    ∙ ap (xors (drop 1 v)) (xors-drop 1 (drop 80 v) (drop 192 v) ∙ ap₂ xors (drop-drop 1 80 v ∙ sym (drop-drop 80 1 v)) (drop-drop 1 192 v ∙ sym (drop-drop 192 1 v)))
+owed-rest = tapped-rest _ _
 
 -- what one byte that is fed back adds to the bytes behind it
 unfoldable spread : ℕ → List ℕ
@@ -72,7 +82,7 @@ unfolding _⊞_ load bit
 xor-same (stages b0 b1 b2 b3 b4 b5 b6 b7 b8 b9 b10 b11 b12 b13 b14 b15) = simp ⊕-self
 
 two-owed : (x y : ℕ) → owed (x ∷ y ∷ replicate 254 0) ≡ x ∷ y ∷ replicate 254 0
-unfolding owed
+unfolding owed tapped
 two-owed x y = ap₂ (λ (m n : ℕ). m ∷ n ∷ replicate 254 0) (xor-zero-r x) (xor-zero-r y)
 
 -- so at the start the register's word is added to two bytes
@@ -89,7 +99,7 @@ alone : ℕ → ℕ
 alone x = word (after blank (x ∷ spread x))
 
 spread-length : (b : ℕ) → length (spread b) ≡ 256
-unfolding spread owed at
+unfolding spread owed tapped at
 spread-length b = refl
 
 alone-xor : Linear bitXor alone
@@ -103,7 +113,7 @@ alone-xor = record {
 }
 
 computed : (k : ℕ) → k < 8 → alone (2 ^ k) ≡ 0
-unfolding alone spread owed at load bit
+unfolding alone spread owed tapped at load bit
 computed = same (λ k. alone (2 ^ k)) (λ k. 0) 8 refl
 
 gone : (b : ℕ) → b < 2 ^ 8 → after blank (b ∷ spread b) ≡ blank
@@ -140,7 +150,7 @@ closed s xs h e = h .law xs (omega arith)
 
 -- what `ring::closed` adds
 pub all-owed : (w v next : List ℕ) → length w ≡ 256 → v ≡ xors (xors (xors w (take 176 (drop 80 w))) (take 64 (drop 192 w))) next → v ≡ xors (owed w) next
-unfolding owed
+unfolding owed tapped
 all-owed w v next e f =
     let a = length-drop 80 w in
     let b = length-drop 192 w in

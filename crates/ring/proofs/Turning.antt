@@ -1,6 +1,6 @@
 -- The ring, turned on place by place.
 -- Assumes nothing.
-use mathlib.Core.Path.{_≡_, refl, sym, ap, ap₂, _∙_}
+use mathlib.Core.Path.{_≡_, sym, ap, ap₂, _∙_}
 use mathlib.Core.List.{List, [], _∷_, _++_, append-assoc, append-nil}
 use mathlib.Core.Logic.{⊎-elim}
 use Prim.Native.Nat.{ℕ, _+_, _-_, _%_, _^_, _≤_, _<_}
@@ -13,11 +13,11 @@ use lib.Seq.{drop-append-le, getD-append-add, drop-drop, take-all, take-suc, tak
 use Rattle.linear.proofs.Linear.{xors, nth}
 use Rattle.sum.specs.Sum.{Register, feed, after}
 use Rattle.sum.proofs.Laws.{after-append}
-use Rattle.ring.specs.Ring.{owed, turned, Same, Turn}
+use Rattle.ring.specs.Ring.{tapped, owed, turned, Same, Turn}
 use Rattle.ring.proofs.Feedback.{one-more}
 
 owed-at : (v : List ℕ) (j : ℕ) → getD (owed v) j 0 ≡ bitXor (getD v j 0) (bitXor (getD v (80 + j) 0) (getD v (192 + j) 0))
-unfolding owed
+unfolding owed tapped
 owed-at v j =
     nth j .law v (xors (drop 80 v) (drop 192 v))
     ∙ ap (bitXor (getD v j 0)) (nth j .law (drop 80 v) (drop 192 v) ∙ ap₂ bitXor (getD-drop 80 v j 0) (getD-drop 192 v j 0))

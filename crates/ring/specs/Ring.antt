@@ -8,9 +8,13 @@ use Rattle.linear.proofs.Linear.{xors}
 use Rattle.sum.specs.Sum.{Register, after}
 use Rattle.stretch.specs.Stretch.{blank}
 
--- what the last 256 bytes fed back add to the next 256: each is added to those 64, 176 and 256 places on
+-- what bytes that are fed back owe to those behind them: each is added to the one so many places on as they are, and to those m and n fewer
+unfoldable pub tapped : ℕ → ℕ → List ℕ → List ℕ
+tapped m n w = xors w (xors (drop m w) (drop n w))
+
+-- of the last 256 bytes each is added to those 256, 176 and 64 places on
 unfoldable pub owed : List ℕ → List ℕ
-owed w = xors w (xors (drop 80 w) (drop 192 w))
+owed w = tapped 80 192 w
 
 -- a ring from the place k on
 unfoldable pub turned : List ℕ → ℕ → List ℕ

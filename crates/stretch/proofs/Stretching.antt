@@ -2,7 +2,7 @@
 -- Assumes nothing.
 use mathlib.Core.Path.{_≡_, refl, sym, ap, ap₂, _∙_}
 use mathlib.Core.List.{List, [], _∷_}
-use Prim.Native.Nat.{ℕ, zero, suc, _+_, _-_, _*_, _/_, _%_, _^_, _≤_, _<_}
+use Prim.Native.Nat.{ℕ, _+_, _-_, _*_, _/_, _%_, _^_, _≤_, _<_}
 use native.Mathlib.Nat.{le-refl, suc-inj}
 use native.Mathlib.Numerals.{add-one}
 use native.Mathlib.Omega.{arith}
@@ -11,7 +11,7 @@ use lib.Bits.{bitXor, xor-zero-r, xor-lt}
 use lib.ListN.{length, take, drop, getD, replicate, length-replicate}
 use lib.Seq.{take-add, take-suc, take-all, drop-drop}
 use Rattle.octets.specs.Words.{split, bytes4}
-use Rattle.linear.proofs.Linear.{Linear, xors, itself, right, left, low, then, xor, nth, none, more, agree}
+use Rattle.linear.proofs.Linear.{Linear, xors, right, left, low, then, nth, none, more, agree}
 use Rattle.sum.specs.Sum.{Register, stages, bit, feed, after, word, load}
 use Rattle.sum.proofs.Laws.{after-append}
 use Rattle.sum.proofs.Bits.{⊕-false}

@@ -1,6 +1,6 @@
 -- `ring::many` meets its contract: each way feeds all the bytes to a register of ones.
 -- Assumes nothing.
-use mathlib.Core.Path.{_≡_, refl, sym}
+use mathlib.Core.Path.{refl, sym}
 use Prim.Native.Nat.{_%_, _≤_}
 use native.Mathlib.Nat.{le-refl}
 use borrow.Author.Needs.{needs}

@@ -1,10 +1,10 @@
 -- `ring::sum_between` meets its contract: the part that is there.
 -- Assumes nothing.
-use mathlib.Core.Path.{refl, sym, ap, _∙_}
-use Prim.Native.Nat.{_-_, min}
+use mathlib.Core.Path.{refl, sym}
+use Prim.Native.Nat.{_-_}
 use native.Mathlib.Omega.{arith}
 use borrow.Author.Needs.{needs}
-use lib.ListN.{length, take, drop}
+use lib.ListN.{take, drop}
 use Rattle.sum.specs.Sum.{ones, after, sumOf}
 use Rattle.sum.proofs.Laws.{inverse}
 use Rattle.ring.proofs.Between.{none-between, some-between}
