@@ -183,18 +183,29 @@ fn print_sums(rounds: usize) {
     for length in LENGTHS {
         let part = &bytes[..length];
         for &(name, one) in &sums {
-            assert!(name == "crate crc" || one(part) == sum(part), "{name}, {length} bytes");
+            assert!(
+                name == "crate crc" || one(part) == sum(part),
+                "{name}, {length} bytes"
+            );
         }
         let times = 400_000 / (length + 40);
         let mut least = vec![f64::INFINITY; sums.len()];
         for _ in 0..rounds * 20 {
             for (least, &(_, one)) in least.iter_mut().zip(&sums) {
-                let mut run = || (0..times).for_each(|_| drop(black_box(one(black_box(part)))));
+                let mut run = || {
+                    for _ in 0..times {
+                        black_box(one(black_box(part)));
+                    }
+                };
                 *least = least.min(nanoseconds(&mut run) / times as f64);
             }
         }
         let columns: Vec<String> = least.iter().map(|time| format!("{time:.1}")).collect();
-        println!("| {length} | {} | {:.2} |", columns.join(" | "), least[2] / least[0]);
+        println!(
+            "| {length} | {} | {:.2} |",
+            columns.join(" | "),
+            least[2] / least[0]
+        );
     }
 }
 
