@@ -1,5 +1,8 @@
 //! Times the proved exports beside the independent implementation, round by round in turn.
 
+mod hunting;
+#[cfg(feature = "memmem")]
+mod memmem;
 mod sums;
 
 use independent::abi;
@@ -51,6 +54,7 @@ fn main() -> ExitCode {
     bench.print();
     println!();
     print_sums(rounds);
+    hunting::print(rounds);
     ExitCode::SUCCESS
 }
 

@@ -14,6 +14,7 @@ pub const ITEM: usize = 10;
 pub const WALK: usize = STATE + ITEM;
 pub const KIND: usize = STATE;
 pub const SIGNAL: usize = 24;
+pub const LOOKS: usize = 8;
 
 /// The kinds of item.
 pub const FRAME_ITEM: u8 = 0;
@@ -25,6 +26,7 @@ pub const DONE_ITEM: u8 = 3;
 #[link(name = "boot", kind = "static")]
 #[link(name = "entries", kind = "static")]
 #[link(name = "relays", kind = "static")]
+#[link(name = "sizing", kind = "static")]
 #[link(name = "signals", kind = "static")]
 extern "C" {
     fn spindlewren_read(
@@ -65,6 +67,13 @@ extern "C" {
         record_len: usize,
         limit: usize,
         n: usize,
+        answer: *mut u8,
+        answer_len: usize,
+    ) -> u8;
+    fn spindlewren_looks(
+        record: *const u8,
+        record_len: usize,
+        limit: usize,
         answer: *mut u8,
         answer_len: usize,
     ) -> u8;
@@ -127,6 +136,18 @@ pub fn begin(limit: usize, walk: &mut [u8]) -> u8 {
 
 pub fn step(record: &[u8], walk: &mut [u8]) -> u8 {
     unsafe { spindlewren_step(record.as_ptr(), record.len(), walk.as_mut_ptr(), walk.len()) }
+}
+
+pub fn looks(record: &[u8], limit: usize, answer: &mut [u8]) -> u8 {
+    unsafe {
+        spindlewren_looks(
+            record.as_ptr(),
+            record.len(),
+            limit,
+            answer.as_mut_ptr(),
+            answer.len(),
+        )
+    }
 }
 
 pub fn sum(bytes: &[u8]) -> u16 {
