@@ -1,0 +1,4 @@
+pub mod Asking
+pub mod Covers
+pub mod Reasons
+pub mod Seeking
