@@ -214,13 +214,14 @@ module _ (R : Judged) (positive : 0 < R .period) (p : ℕ) (l : List Position) w
       go (inr h) = rw (reason-past R p s h) (past-applies s m h (c .to))
 
 -- EXACTLY ONE REASON, from any state of a walk on
-module _ (R : Judged) (good : Fair R) (p : ℕ) (u : Position) where
+module _ (R : Judged) (positive : 0 < R .period) (p : ℕ) (u : Position) where
   pub only-reason : (r t : Reason) → AppliesIn R p (looks R u) r → AppliesIn R p (looks R u) t → r ≡ t
   only-reason r t a b =
-      let (s, m, c, e) = by-look R (good .positive) p (looks R u) r a in
-      let (s', m', c', e') = by-look R (good .positive) p (looks R u) t b in
-      e ∙ ap (reasonFor R p) (one-cover R (good .positive) p u s s' m m' c c') ∙ sym e'
+      let (s, m, c, e) = by-look R positive p (looks R u) r a in
+      let (s', m', c', e') = by-look R positive p (looks R u) t b in
+      e ∙ ap (reasonFor R p) (one-cover R positive p u s s' m m' c c') ∙ sym e'
 
+module _ (R : Judged) (good : Fair R) (p : ℕ) (u : Position) where
   pub some-reason : p + R .period ≤ R .len → Fresh R u → u .place ≤ p → (r : Reason) × AppliesIn R p (looks R u) r
   some-reason room o h =
       let (s, m, c) = some-cover R (good .positive) p (good .patient) room u o h in
@@ -295,10 +296,10 @@ pub one-reason : (bytes : List ℕ) (limit place : ℕ) → Allowed limit → pl
 unfolding judged
 one-reason bytes limit place ok room =
     let (r, a) = some-reason (judged limit bytes) (fair limit bytes ok) place begin room (λ e. clash (sym e)) (omega arith) in
-    (r, a, λ t b. only-reason (judged limit bytes) (fair limit bytes ok) place begin r t a b)
+    (r, a, λ t b. only-reason (judged limit bytes) (fair limit bytes ok .positive) place begin r t a b)
 
 module _ (bytes : List ℕ) (limit place : ℕ) where
-  positive : 0 < judged limit bytes .period
+  pub positive : 0 < judged limit bytes .period
   unfolding judged
   positive = omega arith
 

@@ -1,7 +1,7 @@
 -- Why was this period not aired: when each reason applies to a place of a record, said of the looks of the walk over it. `Reasons.one-reason` of proofs/: exactly one does.
 -- Assumes nothing.
 use mathlib.Core.Bool.{Bool, true, false, not, _&&_}
-use mathlib.Core.List.{List, [], _∷_, List·Memᴰ}
+use mathlib.Core.List.{List, [], _∷_, map, List·Memᴰ}
 use mathlib.Core.Logic.{_⊎_}
 use mathlib.Core.Option.{none, some}
 use mathlib.Core.Path.{_≡_}
@@ -13,9 +13,11 @@ use Rattle.frame.specs.Rules.{_when_, first}
 use Rattle.walk.specs.declared.Item.{Item}
 use Rattle.walk.specs.declared.Item.the-variants.{Frame, Idle, Lost as LostMark}
 use Rattle.walk.specs.declared.Position.{Position}
+use Rattle.walk.specs.declared.State.{State}
+use Rattle.walk.specs.declared.Step.{Step}
 use Rattle.walk.specs.Walk.{Judged, fits, frameAt, look, looks, begin}
 use Rattle.walk.specs.ItemValues.{placeOf}
-use Rattle.walk.specs.Records.{judged, allowed}
+use Rattle.walk.specs.Records.{judged, allowed, callsAt}
 use Rattle.why.specs.declared.Reason.{Reason}
 use Rattle.why.specs.declared.Reason.the-variants.{HandedOut, Lost, Refused, NotStanding, SameSync, SteppedOver}
 use Rattle.why.specs.declared.Answer.{Answer}
@@ -71,7 +73,10 @@ AppliesIn R p l SameSync = HuntedOver R p l × (R .stands p ≡ true) × (follow
 -- "never come to, because the walk in lock stepped over it, with the place of the item before it"
 AppliesIn R p l (SteppedOver q) = SteppedPast R p l q
 
--- what 'handed out' agrees with: the items of the walk have a frame or an idle item at p
+-- what the reasons agree with: the items that n calls of the step hand out, one after another; among items, a frame or an idle item at p
+abbrev pub itemsAt : List ℕ → ℕ → State → List Item
+itemsAt bytes n s = map (λ (r : Step). r .item) (callsAt bytes n s)
+
 abbrev pub OutAt : ℕ → List Item → Type 0
 OutAt p xs = ((h : Header) × List·Memᴰ (Frame p h) xs) ⊎ List·Memᴰ (Idle p) xs
 
