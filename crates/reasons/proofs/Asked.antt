@@ -2,20 +2,22 @@
 -- Assumes nothing.
 use mathlib.Core.Bool.{true}
 use mathlib.Core.List.{List, [], _∷_, _++_}
-use mathlib.Core.Path.{_≡_, refl, sym, subst, _∙_}
-use Prim.Native.Nat.{ℕ, _/_, _%_, _<_}
+use mathlib.Core.Path.{_≡_, refl, sym, ap, subst, _∙_}
+use Prim.Native.Nat.{ℕ, zero, suc, _/_, _%_, _<_}
 use native.Mathlib.Omega.{arith}
 use lib.ListN.{length}
 use borrow.Author.Tests.{eq-eqb, ne-eqb}
 use Rattle.octets.specs.Words.{split, bytes8}
 use Rattle.octets.specs.Stores.{put}
 use Rattle.octets.proofs.Storing.{put-chain, put-all, alone}
-use Rattle.walk.specs.Records.{allowed, limitRefusalOf}
+use Rattle.walk.specs.Walk.{begin}
+use Rattle.walk.specs.Records.{judged, allowed, limitRefusalOf}
 use Rattle.walk.proofs.Limits.{number-allowed, number-outside}
 use Rattle.why.specs.declared.Answer.{Answer}
 use Rattle.why.specs.declared.Answer.the-variants.{Because, Not}
 use Rattle.why.specs.declared.Reason.{Reason}
 use Rattle.why.specs.Why.{reasonNumber, refusalGiven, placeGiven, whyRefusalOf, Answers}
+use Rattle.why.proofs.Reasons.{only-reason, positive}
 use Rattle.reasons.specs.WhyBytes.{whyBytes, whyLentRefusal, Asks}
 
 pub reason-stored : (x : Reason) (l a b : List ℕ) (number refusal place : ℕ) → length l ≡ 10
@@ -61,3 +63,18 @@ module _ (bytes : List ℕ) (limit place : ℕ) (was : List ℕ) (k : ℕ) (e : 
       asks-given x q left p =
           let b : Answers bytes limit place (Because x) = subst (Answers bytes limit place) q a in
           record { number = sym (b .0) ∙ same; given = λ y. record { reason = x; applies = b .1; answer = p }; refused = λ g. absurd (g refl) }
+
+-- ONE OUTCOME: two results that meet the statement are equal, number and bytes
+module _ (bytes : List ℕ) (limit place : ℕ) (was : List ℕ) where
+  pub asks-fixed : (left other : List ℕ) (r n : ℕ) → Asks bytes limit place was left r → Asks bytes limit place was other n → (r ≡ n) × (left ≡ other)
+  asks-fixed left other r n a b = (e, by r refl)
+    where
+      e : r ≡ n
+      e = a .number ∙ sym (b .number)
+
+      by : (k : ℕ) → r ≡ k → left ≡ other
+      by zero z =
+          let g = a .given z in
+          let h = b .given (sym e ∙ z) in
+          g .answer ∙ ap whyBytes (only-reason (judged limit bytes) (positive bytes limit place) place begin (g .reason) (h .reason) (g .applies) (h .applies)) ∙ sym (h .answer)
+      by (suc k) z = a .refused (λ y. omega arith) ∙ sym (b .refused (λ y. omega arith))
