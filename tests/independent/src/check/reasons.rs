@@ -4,7 +4,7 @@ use super::{Case, Checked, OUTSIDE};
 use crate::abi;
 use crate::frame::FRAME;
 use crate::generate::records::record_case;
-use crate::walk::LIMIT_OUTSIDE;
+use crate::walk::{stands, LIMIT_OUTSIDE};
 use crate::why::{reasons, Reason, PLACE_OUTSIDE};
 
 /// A record whose every place is asked about has at most so many bytes.
@@ -17,6 +17,9 @@ impl Case<'_> {
     pub(super) fn every_place(&mut self) -> Checked<()> {
         let mut record = record_case(&mut self.random);
         record.bytes.truncate(SMALL);
+        if self.random.one_in(3) {
+            self.repeat_a_frame(&mut record.bytes);
+        }
         self.kind = format!("every place of a record, {}", record.kind);
         self.tally.every_place += 1;
         let limit = self.random.within(1, 8);
@@ -25,6 +28,21 @@ impl Case<'_> {
             self.reason(&record.bytes, limit, place, Ok(reason))?;
         }
         Ok(())
+    }
+
+    /// A frame behind itself has the same sync word; with a byte of it flipped it may not stand.
+    fn repeat_a_frame(&mut self, record: &mut [u8]) {
+        let standing: Vec<usize> = (0..(record.len() + 1).saturating_sub(2 * FRAME))
+            .filter(|&place| stands(record, place))
+            .collect();
+        if standing.is_empty() {
+            return;
+        }
+        let place = self.random.pick(&standing);
+        record.copy_within(place..place + FRAME, place + FRAME);
+        if self.random.one_in(3) {
+            record[place + FRAME + self.random.within(4, 15)] ^= 1;
+        }
     }
 
     /// Some places of a record, with one limit: any, and more often those where something stood or was handed out.
