@@ -1,4 +1,5 @@
-/* Spindlewren: reading and following ETI frames, for a transmitter's controller. docs/BOUNDARY.md has the layouts. */
+/* Spindlewren: reading and following ETI frames, for a transmitter's controller. docs/BOUNDARY.md has the layouts.
+   tools/library makes one archive of all that is declared here. */
 #ifndef SPINDLEWREN_H
 #define SPINDLEWREN_H
 
@@ -15,7 +16,8 @@ enum {
     SPINDLEWREN_ANSWER = 406, /* spindlewren_read */
     SPINDLEWREN_PART = 4,     /* spindlewren_fic, spindlewren_stream */
     SPINDLEWREN_WALK = 21,    /* spindlewren_begin, spindlewren_step */
-    SPINDLEWREN_LOOKS = 8     /* spindlewren_looks */
+    SPINDLEWREN_LOOKS = 8,    /* spindlewren_looks */
+    SPINDLEWREN_WHY = 10      /* spindlewren_why */
 };
 
 /* What the answer of spindlewren_read has at which byte; one byte each where no number stands behind. */
@@ -73,6 +75,23 @@ enum {
     SPINDLEWREN_IS_DONE = 3
 };
 
+/* What the answer of spindlewren_why has. */
+enum {
+    SPINDLEWREN_REASON = 0,
+    SPINDLEWREN_REFUSAL = 1, /* the refusal number of a place lost or refused, else 0 */
+    SPINDLEWREN_BEFORE = 2   /* 8: the place of the item before a place stepped over, else 0 */
+};
+
+/* The reasons. */
+enum {
+    SPINDLEWREN_HANDED_OUT = 0,   /* as a frame or an idle item */
+    SPINDLEWREN_LOST = 1,
+    SPINDLEWREN_REFUSED = 2,      /* hunted over */
+    SPINDLEWREN_NOT_STANDING = 3, /* it stood, but the place a period later does not, or has not all its bytes */
+    SPINDLEWREN_SAME_SYNC = 4,    /* both stood, with the same sync word */
+    SPINDLEWREN_STEPPED_OVER = 5  /* in lock, and never come to */
+};
+
 /* The refusal numbers. 11 belongs to writing alone. */
 enum {
     SPINDLEWREN_ACCEPTED = 0,
@@ -88,7 +107,8 @@ enum {
     SPINDLEWREN_FL_ABOVE = 10,      /* FL above 1,532 */
     SPINDLEWREN_TOO_WIDE = 12,      /* a value wider than its field: a lock byte above 1 */
     SPINDLEWREN_NO_SUCH_STREAM = 13, /* stream index not below NST */
-    SPINDLEWREN_LIMIT_OUTSIDE = 27  /* limit outside 1 to 8 */
+    SPINDLEWREN_LIMIT_OUTSIDE = 27, /* limit outside 1 to 8 */
+    SPINDLEWREN_PLACE_OUTSIDE = 34  /* place outside 0 to the record's length less 6,144 */
 };
 
 /* Each returns the refusal number, 0 for accepted; refused, not one byte is written. A pointer may be null where its length is 0. */
@@ -101,6 +121,11 @@ uint8_t spindlewren_begin(size_t limit, uint8_t *walk, size_t walk_len);
 
 /* One step of a walk over a record: the walk's bytes then hold the advanced state and its item. */
 uint8_t spindlewren_step(const uint8_t *record, size_t record_len, uint8_t *walk, size_t walk_len);
+
+/* Why a place of a record was aired or not, in the walk from the record's beginning that gives up its lock after `limit` misses: exactly one reason.
+   27 for the limit, then 1 for an answer of another length, then 34 for a place outside 0 to the record's length less 6,144.
+   In an archive of its own: tools/archive reasons. */
+uint8_t spindlewren_why(const uint8_t *record, size_t record_len, size_t limit, size_t place, uint8_t *answer, size_t answer_len);
 
 /* The frame read and written again into `out`, of SPINDLEWREN_FRAME bytes, with the level that reading hands on: what a relay sends on.
    Reading's number, then 1 for an output of another length. In an archive of its own: tools/archive relays. */
@@ -141,6 +166,7 @@ static inline const char *spindlewren_label(uint8_t number) {
     case SPINDLEWREN_TOO_WIDE: return "a value wider than its field";
     case SPINDLEWREN_NO_SUCH_STREAM: return "stream index not below NST";
     case SPINDLEWREN_LIMIT_OUTSIDE: return "limit outside 1 to 8";
+    case SPINDLEWREN_PLACE_OUTSIDE: return "place outside 0 to the record's length less 6,144";
     default: return "no such number";
     }
 }

@@ -1,7 +1,10 @@
-# The layouts as crates/controller/specs/Boundary.antt defines them (with streamValues of frame/specs/Writing.antt and the rules):
+# The layouts as crates/controller/specs/Boundary.antt and crates/reasons/specs/WhyBytes.antt define them (with streamValues of frame/specs/Writing.antt and the rules):
 # a line for each value, 'at NAME OFFSET BYTES'; for each whole, 'whole NAME BYTES'; for each refusal number, 'number N'.
 function name(value) {
     if (value ~ /placeOf/) return "ITEM"
+    if (value ~ /reasonNumber/) return "REASON"
+    if (value ~ /refusalGiven/) return "REFUSAL"
+    if (value ~ /placeGiven/) return "BEFORE"
     if (value ~ /(In|By|Of) [(a-z]/) sub(/(In|By|Of) .*/, "", value)
     gsub(/digit|[() ]|\.[0-9]/, "", value)
     sub(/^.*\./, "", value)
@@ -23,10 +26,12 @@ function number(piece, from,    counts, values) {
     return lay(values, counts, from)
 }
 { left = $0; sub(/^.* = /, "", left) }
-/^(first|second|third|stream|marks)Values .* = / || /^(first|second|third|stream|marks)Counts = / { is[$1] = left }
+/^(first|second|third|stream|marks|why)Values .* = / || /^(first|second|third|stream|marks|why)Counts = / { is[$1] = left }
 /^partBytes .* = / { print "whole PART", number(left, 0) }
 /^stepBytes .* = / { steps = left }
-FILENAME !~ /Writing/ && match($0, /\([0-9]+ when /) { print "number", substr($0, RSTART + 1, RLENGTH - 7) }
+FILENAME !~ /Writing/ {
+    for (rest = $0; match(rest, /\([0-9]+ when /); rest = substr(rest, RSTART + RLENGTH)) print "number", substr(rest, RSTART + 1, RLENGTH - 7)
+}
 END {
     table = lay(is["thirdValues"], is["thirdCounts"], lay(is["secondValues"], is["secondCounts"], lay(is["firstValues"], is["firstCounts"], 0)))
     entry = lay(is["streamValues"], is["streamCounts"], 0)
@@ -36,4 +41,5 @@ END {
     split(steps, piece, / \+\+ /)
     at = lay(is["marksValues"], is["marksCounts"], number(piece[1], 0))
     print "whole WALK", number(piece[3], at)
+    print "whole WHY", lay(is["whyValues"], is["whyCounts"], 0)
 }

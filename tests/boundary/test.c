@@ -242,6 +242,7 @@ int main(void) {
     begins();
     states(four, four_len);
     rows();
+    whys(four, four_len, night, night_len);
     free(four);
     free(damaged);
     free(noise);

@@ -21,4 +21,7 @@ void parts(const uint8_t *frame, const uint8_t *answer);
 /* The scope's bench figures, as frames. */
 void rows(void);
 
+/* Reasons for places of the samples. */
+void whys(const uint8_t *four, size_t four_len, const uint8_t *night, size_t night_len);
+
 #endif

@@ -3,6 +3,7 @@
 use crate::frame::{Reading, Stream, Table, Timestamp, NULL_TRANSMISSION};
 use crate::signalling;
 use crate::walk::{Item, State};
+use crate::why::Reason;
 use crate::writing::Fields;
 
 pub const ANSWER: usize = 406;
@@ -15,6 +16,7 @@ pub const WALK: usize = STATE + ITEM;
 pub const KIND: usize = STATE;
 pub const SIGNAL: usize = 24;
 pub const LOOKS: usize = 8;
+pub const WHY: usize = 10;
 
 /// The kinds of item.
 pub const FRAME_ITEM: u8 = 0;
@@ -23,7 +25,9 @@ pub const IDLE_ITEM: u8 = 2;
 pub const DONE_ITEM: u8 = 3;
 
 #[link(name = "controller", kind = "static")]
+#[link(name = "boot", kind = "static")]
 #[link(name = "entries", kind = "static")]
+#[link(name = "reasons", kind = "static")]
 #[link(name = "relays", kind = "static")]
 #[link(name = "sizing", kind = "static")]
 #[link(name = "signals", kind = "static")]
@@ -51,6 +55,7 @@ extern "C" {
     fn spindlewren_step(record: *const u8, record_len: usize, walk: *mut u8, walk_len: usize)
         -> u8;
     fn spindlewren_sum(bytes: *const u8, bytes_len: usize) -> u16;
+    fn spindlewren_boot_sum(bytes: *const u8, bytes_len: usize) -> u16;
     fn spindlewren_write(
         fields: *const u8,
         fields_len: usize,
@@ -72,6 +77,14 @@ extern "C" {
         record: *const u8,
         record_len: usize,
         limit: usize,
+        answer: *mut u8,
+        answer_len: usize,
+    ) -> u8;
+    fn spindlewren_why(
+        record: *const u8,
+        record_len: usize,
+        limit: usize,
+        place: usize,
         answer: *mut u8,
         answer_len: usize,
     ) -> u8;
@@ -152,6 +165,11 @@ pub fn sum(bytes: &[u8]) -> u16 {
     unsafe { spindlewren_sum(bytes.as_ptr(), bytes.len()) }
 }
 
+/// The boot loader's, which is the small one.
+pub fn boot_sum(bytes: &[u8]) -> u16 {
+    unsafe { spindlewren_boot_sum(bytes.as_ptr(), bytes.len()) }
+}
+
 pub fn write(fields: &[u8], main: &[u8], out: &mut [u8]) -> u8 {
     unsafe {
         spindlewren_write(
@@ -180,6 +198,32 @@ pub fn nth(record: &[u8], limit: usize, n: usize, answer: &mut [u8]) -> u8 {
             answer.len(),
         )
     }
+}
+
+pub fn why(record: &[u8], limit: usize, place: usize, answer: &mut [u8]) -> u8 {
+    unsafe {
+        spindlewren_why(
+            record.as_ptr(),
+            record.len(),
+            limit,
+            place,
+            answer.as_mut_ptr(),
+            answer.len(),
+        )
+    }
+}
+
+/// The reason's number, the refusal number it gives, and the place of the item before.
+pub fn why_bytes(reason: Reason) -> Vec<u8> {
+    let (number, refusal, before) = match reason {
+        Reason::HandedOut => (0, 0, 0),
+        Reason::Lost(refusal) => (1, refusal, 0),
+        Reason::Refused(refusal) => (2, refusal, 0),
+        Reason::NotStanding => (3, 0, 0),
+        Reason::SameSync => (4, 0, 0),
+        Reason::SteppedOver(before) => (5, 0, before),
+    };
+    [&[number, refusal][..], &(before as u64).to_be_bytes()].concat()
 }
 
 pub fn signal_step(fp: u8, mnsc: u16, signal: &mut [u8], bytes: &mut [u8]) -> u8 {

@@ -2,6 +2,7 @@
 
 mod chains;
 mod looks;
+mod reasons;
 mod signals;
 
 use crate::abi;
@@ -51,6 +52,12 @@ pub struct Tally {
     pub relays: u64,
     pub wrong_sums: u64,
     pub undamaged: u64,
+    /// Records whose every place was asked about.
+    pub every_place: u64,
+    /// Reasons by their number, by the walk's limit, and refusals: limits, places.
+    pub reasons: [u64; 6],
+    pub why_limits: [u64; 8],
+    pub why_refused: [u64; 2],
     pub signals: u64,
     /// Messages, at 0, and drops and refusals of signalling by their number.
     pub signal_numbers: [u64; 37],
@@ -70,6 +77,10 @@ impl Default for Tally {
             relays: 0,
             wrong_sums: 0,
             undamaged: 0,
+            every_place: 0,
+            reasons: [0; 6],
+            why_limits: [0; 8],
+            why_refused: [0; 2],
             signals: 0,
             signal_numbers: [0; 37],
         }
@@ -89,6 +100,10 @@ impl AddAssign<&Tally> for Tally {
         self.relays += other.relays;
         self.wrong_sums += other.wrong_sums;
         self.undamaged += other.undamaged;
+        self.every_place += other.every_place;
+        add_each(&mut self.reasons, &other.reasons);
+        add_each(&mut self.why_limits, &other.why_limits);
+        add_each(&mut self.why_refused, &other.why_refused);
         self.signals += other.signals;
         add_each(&mut self.signal_numbers, &other.signal_numbers);
     }
@@ -123,6 +138,7 @@ pub fn check(sort: Sort, seed: u64, number: u64, tally: &mut Tally) -> Checked<(
         Sort::Record => case.record(),
         Sort::Signals => case.signals(),
         Sort::Chain => case.chain(),
+        Sort::Places => case.every_place(),
     }
 }
 
@@ -152,7 +168,9 @@ impl Case<'_> {
         let end = self.random.within(0, bytes.len());
         let start = self.random.within(0, end);
         let part = &bytes[start..end];
-        self.same("sum", &abi::sum(part), &sum(part))
+        let expected = sum(part);
+        self.same("boot loader's sum", &abi::boot_sum(part), &expected)?;
+        self.same("sum", &abi::sum(part), &expected)
     }
 
     fn read(&mut self, frame: &[u8], reading: Result<Reading, u8>) -> Checked<Vec<u8>> {
@@ -288,7 +306,7 @@ impl Case<'_> {
         for _ in 0..8 {
             self.any_state(&record.bytes)?;
         }
-        Ok(())
+        self.some_places(&record.bytes)
     }
 
     /// The record's walk with a limit from 1 to 8.

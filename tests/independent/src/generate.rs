@@ -1,4 +1,4 @@
-//! Seeded cases: frames, field sets for writing, records, frames with signalling, and chains of relays.
+//! Seeded cases: frames, field sets for writing, records, frames with signalling, chains of relays, and records whose every place is asked about.
 
 pub mod chains;
 pub mod frames;
@@ -14,6 +14,7 @@ pub enum Sort {
     Record = 3,
     Signals = 4,
     Chain = 5,
+    Places = 6,
 }
 
 /// Splitmix64.

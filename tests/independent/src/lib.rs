@@ -17,4 +17,5 @@ pub mod relay;
 pub mod signalling;
 pub mod sum;
 pub mod walk;
+pub mod why;
 pub mod writing;

@@ -7,7 +7,7 @@ use std::thread;
 use std::time::{Duration, Instant};
 
 const USAGE: &str =
-    "usage: compare [--seed N] [--frames N] [--records N] [--signals N] [--chains N] [--seconds N]";
+    "usage: compare [--seed N] [--frames N] [--records N] [--signals N] [--chains N] [--places N] [--seconds N]";
 const THREADS: u64 = 2;
 /// A message, and the numbers that signalling tells or refuses with.
 const SIGNAL_NUMBERS: [usize; 7] = [0, 1, 12, 24, 25, 26, 36];
@@ -18,6 +18,8 @@ struct Options {
     records: u64,
     signals: u64,
     chains: u64,
+    /// Records whose every place is asked about.
+    places: u64,
     /// Rounds go on until the time is up.
     seconds: Option<u64>,
 }
@@ -53,6 +55,7 @@ fn options(mut arguments: impl Iterator<Item = String>) -> Result<Options, Strin
         records: 5_000,
         signals: 20_000,
         chains: 5_000,
+        places: 200,
         seconds: None,
     };
     while let Some(name) = arguments.next() {
@@ -64,6 +67,7 @@ fn options(mut arguments: impl Iterator<Item = String>) -> Result<Options, Strin
             "--records" => options.records = value,
             "--signals" => options.signals = value,
             "--chains" => options.chains = value,
+            "--places" => options.places = value,
             "--seconds" => options.seconds = Some(value),
             _ => return Err(format!("{name} is not known")),
         }
@@ -116,6 +120,7 @@ fn part(seed: u64, options: &Options, thread: u64) -> Result<Tally, Found> {
         (Sort::Writing, options.frames),
         (Sort::Signals, options.signals),
         (Sort::Chain, options.chains),
+        (Sort::Places, options.places),
     ];
     for (sort, count) in sorts {
         for case in (thread..count).step_by(THREADS as usize) {
@@ -159,9 +164,18 @@ fn report(tally: &Tally) -> ExitCode {
         println!("{what} {count}");
         never |= count == 0;
     }
+    let [handed_out, lost, refused, not_standing, same_sync, stepped_over] = tally.reasons;
+    println!("reasons: every place of {} records; handed out {handed_out}, lost {lost}, refused {refused}, not standing {not_standing}, same sync word {same_sync}, stepped over {stepped_over}", tally.every_place);
+    let [limits, places] = tally.why_refused;
+    println!(
+        "reasons with limits 1 to 8 {:?}, limits refused {limits}, places refused {places}",
+        tally.why_limits
+    );
+    let asked = [&tally.reasons[..], &tally.why_limits, &tally.why_refused];
+    never |= tally.every_place == 0 || asked.concat().contains(&0);
     let counts = [&tally.numbers[..], &tally.items, &tally.limits];
     if never || counts.concat().contains(&0) {
-        println!("a number, a kind of item or a limit was never met");
+        println!("a number, a kind of item, a limit or a reason was never met");
         return ExitCode::FAILURE;
     }
     println!("no mismatch");

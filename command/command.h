@@ -1,0 +1,45 @@
+/* What the verbs of the command share. */
+#ifndef COMMAND_H
+#define COMMAND_H
+
+#include "spindlewren.h"
+
+/* Exit statuses. */
+enum { DONE = 0, COULD_NOT = 1, WRONG_USE = 2 };
+
+/* What a verb is asked: a file, a place where the verb takes one, and the limit of misses. */
+struct request {
+    const char *file;
+    size_t place;
+    size_t limit;
+};
+
+/* A verb: its name, whether it takes a place, what it does, and the line of help. */
+struct verb {
+    const char *name;
+    int takes_place;
+    void (*run)(const struct request *asked);
+    const char *help;
+};
+
+void list(const struct request *asked);
+void why(const struct request *asked);
+
+struct record {
+    const uint8_t *bytes;
+    size_t len;
+};
+
+/* The whole file, mapped, so that its size does not matter. Ends the command where that cannot be. */
+struct record map(const char *file);
+
+/* A number in digits alone; 0 where the word is none. One that is too large for its type is the largest: it is outside every range here. */
+int digits(const char *word, size_t *number);
+
+/* Ends the command with COULD_NOT: the file and the reason on standard error. */
+void fail(const char *file, const char *reason);
+
+/* .. where the reason is a refusal number. */
+void refuse(const char *file, uint8_t refusal);
+
+#endif

@@ -1,0 +1,5 @@
+pub mod Agreeing
+pub mod Asking
+pub mod Covers
+pub mod Reasons
+pub mod Seeking
