@@ -14,7 +14,7 @@ use Rattle.frame.proofs.FirstRule.{NoneHold, Settled, FirstToHold, only, given,
 use Rattle.places.specs.declared.Place.{Place}
 use Rattle.places.specs.Places.{noPlace, placesOf, some, somePair, sameScid, unsized, beyond, meets, placeRules, profileRulesOf, profileOf, Holds, PassesAll, Passes}
 
-clash : {A : Type 0} → true ≡ false → A
+pub clash : {A : Type 0} → true ≡ false → A
 clash h = let z : _≡_ {A = ℕ} 0 1 = cc in absurd (omega arith)
 
 both-false : (a b : Bool) → (a || b) ≡ false → (a ≡ false) × (b ≡ false)

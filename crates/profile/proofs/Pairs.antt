@@ -16,6 +16,7 @@ use Rattle.frame.proofs.FirstRule.{first-zero, first-found}
 use Rattle.octets.proofs.Deciding.{or-assoc, or-false}
 use Rattle.places.specs.declared.Place.{Place}
 use Rattle.places.specs.Places.{placeOf, noPlace, placesTo, placesOf, some, somePair, placeRules, profileOf}
+use Rattle.places.proofs.PlaceList.{places-more, places-length}
 use Rattle.profile.specs.ProfileClauses.{tabled}
 
 some-append : (t : Place → Bool) (ps qs : List Place) → some t (ps ++ qs) ≡ (some t ps || some t qs)
@@ -53,15 +54,6 @@ some-turn t l i found r h p q = rw (p, q) (sym (some-more t l i h))
 
 pub pair-turn : (t : Place → Place → Bool) (l : List Place) (i : ℕ) (found r : Bool) → i < length l → found ≡ somePair t (take i l) → r ≡ some (λ (p : Place). t p (getD l i noPlace)) (take i l) → (found || r) ≡ somePair t (take (i + 1) l)
 pair-turn t l i found r h p q = rw (p, q) (sym (pair-more t l i h))
-
-pub places-more : (f : List ℕ) (n : ℕ) → placesTo f (n + 1) ≡ placesTo f n ++ (placeOf (streamOf f n) ∷ [])
-unfolding placesTo
-places-more f n = ap (placesTo f) (add-one n)
-
-pub places-length : (f : List ℕ) (n : ℕ) → length (placesTo f n) ≡ n
-unfolding placesTo
-places-length f zero = refl
-places-length f (suc n) = rw (length-append, places-length f n) (add-one n)
 
 -- a store of the next entry makes the table of one entry more
 pub table-more : (f : List ℕ) (n : ℕ) → n < 64 → set (tabled (placesTo f n)) n (placeOf (streamOf f n)) ≡ tabled (placesTo f (n + 1))
