@@ -52,8 +52,21 @@ pair-more t l i h = rw (taken-more l i h) (pair-snoc t (take i l) (getD l i noPl
 pub some-turn : (t : Place → Bool) (l : List Place) (i : ℕ) (found r : Bool) → i < length l → found ≡ some t (take i l) → r ≡ t (getD l i noPlace) → (found || r) ≡ some t (take (i + 1) l)
 some-turn t l i found r h p q = rw (p, q) (sym (some-more t l i h))
 
-pub pair-turn : (t : Place → Place → Bool) (l : List Place) (i : ℕ) (found r : Bool) → i < length l → found ≡ somePair t (take i l) → r ≡ some (λ (p : Place). t p (getD l i noPlace)) (take i l) → (found || r) ≡ somePair t (take (i + 1) l)
-pair-turn t l i found r h p q = rw (p, q) (sym (pair-more t l i h))
+-- a stream against those before it, one more at a time
+module _ (t : Place → Place → Bool) (l : List Place) (i : ℕ) (found : Bool) where
+  abbrev pub Against : ℕ → Type 0
+  Against j = found ≡ (somePair t (take i l) || some (λ (p : Place). t p (getD l i noPlace)) (take j l))
+
+  pub pair-begins : found ≡ somePair t (take i l) → Against 0
+  unfolding some
+  pair-begins e = e ∙ sym (or-false (somePair t (take i l)))
+
+  pub pair-ends : (j : ℕ) → i < length l → j ≡ i → Against j → found ≡ somePair t (take (i + 1) l)
+  pair-ends j h e p = p ∙ (rw e (sym (pair-more t l i h)))
+
+pub pair-turn : (t : Place → Place → Bool) (l : List Place) (i j : ℕ) (found r : Bool) → j < length l → Against t l i found j → r ≡ t (getD l j noPlace) (getD l i noPlace) → Against t l i (found || r) (j + 1)
+pair-turn t l i j found r h p q =
+    rw (p, q, some-more (λ (x : Place). t x (getD l i noPlace)) l j h) (or-assoc (somePair t (take i l)) (some (λ (x : Place). t x (getD l i noPlace)) (take j l)) (t (getD l j noPlace) (getD l i noPlace)))
 
 -- a store of the next entry makes the table of one entry more
 pub table-more : (f : List ℕ) (n : ℕ) → n < 64 → set (tabled (placesTo f n)) n (placeOf (streamOf f n)) ≡ tabled (placesTo f (n + 1))

@@ -1,11 +1,11 @@
 // The final-stage profile of a frame: its number. Pairs of streams are compared over a table of their places, made once.
 ghost use mathlib.Core.List.{[], _∷_};
 ghost use mathlib.Core.Path.{_≡_};
-ghost use Prim.Native.Nat.{_<_, _≤_};
-ghost use lib.ListN.{getD, take};
+ghost use Prim.Native.Nat.{_≤_};
+ghost use lib.ListN.{take};
 ghost use Rattle.frame.specs.Rules.{first, _when_};
-ghost use Rattle.places.specs.Places.{noPlace, placesTo, some, somePair, sameScid, unsized, beyond, meets, placeRules, profileOf};
-ghost use Rattle.profile.specs.ProfileClauses.{sameAs, meetsWith, tabled};
+ghost use Rattle.places.specs.Places.{placesTo, some, somePair, sameScid, unsized, beyond, meets, placeRules, profileOf};
+ghost use Rattle.profile.specs.ProfileClauses.{tabled};
 use places::Place;
 
 // The places of the first n streams.
@@ -27,36 +27,6 @@ fn table(frame: &[u8], n: usize) -> [Place; 64]
     table
 }
 
-// Whether one of the streams before stream n has its SCID.
-fn same_before(table: [Place; 64], n: usize) -> bool
-    requires { ⌜ n < 64 ⌝ }
-    ensures { λ r. ⌜ r ≡ some (sameAs (getD table n noPlace)) (take n table) ⌝ }
-{
-    let mine = table[n];
-    let mut found = false;
-    let mut i = 0;
-    while i < n {
-        found = found | places::same(table[i], mine);
-        i += 1;
-    }
-    found
-}
-
-// Whether one of the streams before stream n has a unit of its.
-fn meets_before(table: [Place; 64], n: usize) -> bool
-    requires { ⌜ n < 64 ⌝ }
-    ensures { λ r. ⌜ r ≡ some (meetsWith (getD table n noPlace)) (take n table) ⌝ }
-{
-    let mine = table[n];
-    let mut found = false;
-    let mut i = 0;
-    while i < n {
-        found = found | places::meet(table[i], mine);
-        i += 1;
-    }
-    found
-}
-
 // Over the first n streams: two of one SCID, one without a size, one beyond the units, two that share a unit.
 fn some_same(table: [Place; 64], n: usize) -> bool
     requires { ⌜ n ≤ 64 ⌝ }
@@ -65,7 +35,12 @@ fn some_same(table: [Place; 64], n: usize) -> bool
     let mut found = false;
     let mut i = 0;
     while i < n {
-        found = found | same_before(table, i);
+        let mine = table[i];
+        let mut j = 0;
+        while j < i {
+            found = found | places::same(table[j], mine);
+            j += 1;
+        }
         i += 1;
     }
     found
@@ -104,7 +79,12 @@ fn some_meet(table: [Place; 64], n: usize) -> bool
     let mut found = false;
     let mut i = 0;
     while i < n {
-        found = found | meets_before(table, i);
+        let mine = table[i];
+        let mut j = 0;
+        while j < i {
+            found = found | places::meet(table[j], mine);
+            j += 1;
+        }
         i += 1;
     }
     found
