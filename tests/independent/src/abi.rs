@@ -14,6 +14,7 @@ pub const ITEM: usize = 10;
 pub const WALK: usize = STATE + ITEM;
 pub const KIND: usize = STATE;
 pub const SIGNAL: usize = 24;
+pub const COLLISION: usize = 3;
 
 /// The kinds of item.
 pub const FRAME_ITEM: u8 = 0;
@@ -24,6 +25,7 @@ pub const DONE_ITEM: u8 = 3;
 #[link(name = "controller", kind = "static")]
 #[link(name = "entries", kind = "static")]
 #[link(name = "relays", kind = "static")]
+#[link(name = "profiles", kind = "static")]
 #[link(name = "signals", kind = "static")]
 extern "C" {
     fn spindlewren_read(
@@ -58,6 +60,13 @@ extern "C" {
         out_len: usize,
     ) -> u8;
     fn spindlewren_relay(frame: *const u8, frame_len: usize, out: *mut u8, out_len: usize) -> u8;
+    fn spindlewren_profile(frame: *const u8, frame_len: usize) -> u8;
+    fn spindlewren_collision(
+        frame: *const u8,
+        frame_len: usize,
+        collision: *mut u8,
+        collision_len: usize,
+    ) -> u8;
     fn spindlewren_nth(
         record: *const u8,
         record_len: usize,
@@ -146,6 +155,14 @@ pub fn write(fields: &[u8], main: &[u8], out: &mut [u8]) -> u8 {
 
 pub fn relay(frame: &[u8], out: &mut [u8]) -> u8 {
     unsafe { spindlewren_relay(frame.as_ptr(), frame.len(), out.as_mut_ptr(), out.len()) }
+}
+
+pub fn profile(frame: &[u8]) -> u8 {
+    unsafe { spindlewren_profile(frame.as_ptr(), frame.len()) }
+}
+
+pub fn collision(frame: &[u8], out: &mut [u8]) -> u8 {
+    unsafe { spindlewren_collision(frame.as_ptr(), frame.len(), out.as_mut_ptr(), out.len()) }
 }
 
 pub fn nth(record: &[u8], limit: usize, n: usize, answer: &mut [u8]) -> u8 {

@@ -1,6 +1,7 @@
 //! One case through the proved exports and through this implementation.
 
 mod chains;
+mod profiles;
 mod signals;
 
 use crate::abi;
@@ -48,6 +49,9 @@ pub struct Tally {
     pub relays: u64,
     pub wrong_sums: u64,
     pub undamaged: u64,
+    pub profiles: u64,
+    /// Profiles by their number.
+    pub profile_numbers: [u64; 34],
     pub signals: u64,
     /// Messages, at 0, and drops and refusals of signalling by their number.
     pub signal_numbers: [u64; 37],
@@ -66,6 +70,8 @@ impl Default for Tally {
             relays: 0,
             wrong_sums: 0,
             undamaged: 0,
+            profiles: 0,
+            profile_numbers: [0; 34],
             signals: 0,
             signal_numbers: [0; 37],
         }
@@ -84,6 +90,8 @@ impl AddAssign<&Tally> for Tally {
         self.relays += other.relays;
         self.wrong_sums += other.wrong_sums;
         self.undamaged += other.undamaged;
+        self.profiles += other.profiles;
+        add_each(&mut self.profile_numbers, &other.profile_numbers);
         self.signals += other.signals;
         add_each(&mut self.signal_numbers, &other.signal_numbers);
     }
@@ -118,6 +126,7 @@ pub fn check(sort: Sort, seed: u64, number: u64, tally: &mut Tally) -> Checked<(
         Sort::Record => case.record(),
         Sort::Signals => case.signals(),
         Sort::Chain => case.chain(),
+        Sort::Profile => case.profile(),
     }
 }
 

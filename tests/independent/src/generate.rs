@@ -1,7 +1,8 @@
-//! Seeded cases: frames, field sets for writing, records, frames with signalling, and chains of relays.
+//! Seeded cases: frames, field sets for writing, records, frames with signalling, chains of relays, and tables for the profile.
 
 pub mod chains;
 pub mod frames;
+pub mod profiles;
 pub mod records;
 pub mod signals;
 pub mod writings;
@@ -14,6 +15,7 @@ pub enum Sort {
     Record = 3,
     Signals = 4,
     Chain = 5,
+    Profile = 6,
 }
 
 /// Splitmix64.
