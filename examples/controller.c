@@ -49,11 +49,13 @@ static void part_line(const char *what, const uint8_t *part) {
 }
 
 static void sub_channels(const uint8_t *frame, uint64_t place) {
-    uint8_t answer[SPINDLEWREN_ANSWER], part[SPINDLEWREN_PART];
+    uint8_t answer[SPINDLEWREN_ANSWER], part[SPINDLEWREN_PART], number;
     char what[96];
     size_t i;
     if (spindlewren_read(frame, SPINDLEWREN_FRAME, answer, sizeof answer) != 0) return;
-    printf("first frame, at %llu, sub-channels: %u\n", (unsigned long long)place, answer[SPINDLEWREN_NST]);
+    number = spindlewren_profile(frame, SPINDLEWREN_FRAME);
+    printf("first frame, at %llu, sub-channels: %u, profile: %u %s\n", (unsigned long long)place, answer[SPINDLEWREN_NST], number,
+           spindlewren_label(number));
     if (spindlewren_fic(frame, SPINDLEWREN_FRAME, part, sizeof part) == 0) part_line("FIC", part);
     for (i = 0; spindlewren_stream(frame, SPINDLEWREN_FRAME, i, part, sizeof part) == 0; i++) {
         const uint8_t *entry = answer + spindlewren_entry(i);

@@ -17,7 +17,8 @@ enum {
     SPINDLEWREN_PART = 4,     /* spindlewren_fic, spindlewren_stream */
     SPINDLEWREN_WALK = 21,    /* spindlewren_begin, spindlewren_step */
     SPINDLEWREN_LOOKS = 8,    /* spindlewren_looks */
-    SPINDLEWREN_WHY = 10      /* spindlewren_why */
+    SPINDLEWREN_WHY = 10,     /* spindlewren_why */
+    SPINDLEWREN_COLLISION = 3 /* spindlewren_collision */
 };
 
 /* What the answer of spindlewren_read has at which byte; one byte each where no number stands behind. */
@@ -67,6 +68,13 @@ enum {
     SPINDLEWREN_ITEM = 13    /* 8: the item's place */
 };
 
+/* What spindlewren_collision tells: the profile's number, and the places in the table of the streams that it is about. */
+enum {
+    SPINDLEWREN_PROFILE = 0, /* 0, or 30 to 33 */
+    SPINDLEWREN_FIRST = 1,   /* 30 and 33: the first two streams, in table order; 31 and 32: the first stream, twice */
+    SPINDLEWREN_SECOND = 2
+};
+
 /* The kinds of item. */
 enum {
     SPINDLEWREN_IS_FRAME = 0,
@@ -108,6 +116,10 @@ enum {
     SPINDLEWREN_TOO_WIDE = 12,      /* a value wider than its field: a lock byte above 1 */
     SPINDLEWREN_NO_SUCH_STREAM = 13, /* stream index not below NST */
     SPINDLEWREN_LIMIT_OUTSIDE = 27, /* limit outside 1 to 8 */
+    SPINDLEWREN_EQUAL_SCIDS = 30,   /* two streams have one SCID */
+    SPINDLEWREN_NO_SIZE = 31,       /* protection with no size */
+    SPINDLEWREN_BEYOND = 32,        /* capacity units beyond 863 */
+    SPINDLEWREN_OVERLAP = 33,       /* two sub-channels share a capacity unit */
     SPINDLEWREN_PLACE_OUTSIDE = 34  /* place outside 0 to the record's length less 6,144 */
 };
 
@@ -135,6 +147,13 @@ uint8_t spindlewren_relay(const uint8_t *frame, size_t frame_len, uint8_t *out, 
    at most twice (record_len - 6,143), and 0 below 6,144 bytes. 27 for a limit outside 1 to 8, then 1 for an answer of another length.
    In an archive of its own: tools/archive sizing. */
 uint8_t spindlewren_looks(const uint8_t *record, size_t record_len, size_t limit, uint8_t *answer, size_t answer_len);
+
+/* The final-stage profile: reading's number, then 30 to 33; 0: the frame passes. In an archive of its own: tools/archive profiles. */
+uint8_t spindlewren_profile(const uint8_t *frame, size_t frame_len);
+
+/* Which streams it is about, of an accepted frame: 1 for answer bytes of another length, then reading's number; otherwise 0, and the
+   profile's number stands in the answer. In the same archive. */
+uint8_t spindlewren_collision(const uint8_t *frame, size_t frame_len, uint8_t *collision, size_t collision_len);
 
 /* The number in `width` bytes from `at` on, high byte first. */
 static inline uint64_t spindlewren_number(const uint8_t *bytes, size_t at, size_t width) {
@@ -166,6 +185,10 @@ static inline const char *spindlewren_label(uint8_t number) {
     case SPINDLEWREN_TOO_WIDE: return "a value wider than its field";
     case SPINDLEWREN_NO_SUCH_STREAM: return "stream index not below NST";
     case SPINDLEWREN_LIMIT_OUTSIDE: return "limit outside 1 to 8";
+    case SPINDLEWREN_EQUAL_SCIDS: return "two streams have one SCID";
+    case SPINDLEWREN_NO_SIZE: return "protection with no size";
+    case SPINDLEWREN_BEYOND: return "capacity units beyond 863";
+    case SPINDLEWREN_OVERLAP: return "two sub-channels share a capacity unit";
     case SPINDLEWREN_PLACE_OUTSIDE: return "place outside 0 to the record's length less 6,144";
     default: return "no such number";
     }

@@ -17,6 +17,7 @@ pub const KIND: usize = STATE;
 pub const SIGNAL: usize = 24;
 pub const LOOKS: usize = 8;
 pub const WHY: usize = 10;
+pub const COLLISION: usize = 3;
 
 /// The kinds of item.
 pub const FRAME_ITEM: u8 = 0;
@@ -30,6 +31,7 @@ pub const DONE_ITEM: u8 = 3;
 #[link(name = "reasons", kind = "static")]
 #[link(name = "relays", kind = "static")]
 #[link(name = "sizing", kind = "static")]
+#[link(name = "profiles", kind = "static")]
 #[link(name = "signals", kind = "static")]
 extern "C" {
     fn spindlewren_read(
@@ -65,6 +67,13 @@ extern "C" {
         out_len: usize,
     ) -> u8;
     fn spindlewren_relay(frame: *const u8, frame_len: usize, out: *mut u8, out_len: usize) -> u8;
+    fn spindlewren_profile(frame: *const u8, frame_len: usize) -> u8;
+    fn spindlewren_collision(
+        frame: *const u8,
+        frame_len: usize,
+        collision: *mut u8,
+        collision_len: usize,
+    ) -> u8;
     fn spindlewren_nth(
         record: *const u8,
         record_len: usize,
@@ -185,6 +194,14 @@ pub fn write(fields: &[u8], main: &[u8], out: &mut [u8]) -> u8 {
 
 pub fn relay(frame: &[u8], out: &mut [u8]) -> u8 {
     unsafe { spindlewren_relay(frame.as_ptr(), frame.len(), out.as_mut_ptr(), out.len()) }
+}
+
+pub fn profile(frame: &[u8]) -> u8 {
+    unsafe { spindlewren_profile(frame.as_ptr(), frame.len()) }
+}
+
+pub fn collision(frame: &[u8], out: &mut [u8]) -> u8 {
+    unsafe { spindlewren_collision(frame.as_ptr(), frame.len(), out.as_mut_ptr(), out.len()) }
 }
 
 pub fn nth(record: &[u8], limit: usize, n: usize, answer: &mut [u8]) -> u8 {

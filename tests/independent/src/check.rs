@@ -3,6 +3,7 @@
 mod chains;
 mod looks;
 mod reasons;
+mod profiles;
 mod signals;
 
 use crate::abi;
@@ -58,6 +59,9 @@ pub struct Tally {
     pub reasons: [u64; 6],
     pub why_limits: [u64; 8],
     pub why_refused: [u64; 2],
+    pub profiles: u64,
+    /// Profiles by their number.
+    pub profile_numbers: [u64; 34],
     pub signals: u64,
     /// Messages, at 0, and drops and refusals of signalling by their number.
     pub signal_numbers: [u64; 37],
@@ -81,6 +85,8 @@ impl Default for Tally {
             reasons: [0; 6],
             why_limits: [0; 8],
             why_refused: [0; 2],
+            profiles: 0,
+            profile_numbers: [0; 34],
             signals: 0,
             signal_numbers: [0; 37],
         }
@@ -104,6 +110,8 @@ impl AddAssign<&Tally> for Tally {
         add_each(&mut self.reasons, &other.reasons);
         add_each(&mut self.why_limits, &other.why_limits);
         add_each(&mut self.why_refused, &other.why_refused);
+        self.profiles += other.profiles;
+        add_each(&mut self.profile_numbers, &other.profile_numbers);
         self.signals += other.signals;
         add_each(&mut self.signal_numbers, &other.signal_numbers);
     }
@@ -139,6 +147,7 @@ pub fn check(sort: Sort, seed: u64, number: u64, tally: &mut Tally) -> Checked<(
         Sort::Signals => case.signals(),
         Sort::Chain => case.chain(),
         Sort::Places => case.every_place(),
+        Sort::Profile => case.profile(),
     }
 }
 

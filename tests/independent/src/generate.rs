@@ -1,7 +1,8 @@
-//! Seeded cases: frames, field sets for writing, records, frames with signalling, chains of relays, and records whose every place is asked about.
+//! Seeded cases: frames, field sets for writing, records, frames with signalling, chains of relays, records whose every place is asked about, and tables for the profile.
 
 pub mod chains;
 pub mod frames;
+pub mod profiles;
 pub mod records;
 pub mod signals;
 pub mod writings;
@@ -15,6 +16,7 @@ pub enum Sort {
     Signals = 4,
     Chain = 5,
     Places = 6,
+    Profile = 7,
 }
 
 /// Splitmix64.

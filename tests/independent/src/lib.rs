@@ -12,6 +12,7 @@ pub mod line;
 pub mod line_abi;
 pub mod listing;
 pub mod looks;
+pub mod profile;
 pub mod reed_solomon;
 pub mod relay;
 pub mod signalling;

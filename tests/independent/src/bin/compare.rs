@@ -7,10 +7,13 @@ use std::thread;
 use std::time::{Duration, Instant};
 
 const USAGE: &str =
-    "usage: compare [--seed N] [--frames N] [--records N] [--signals N] [--chains N] [--places N] [--seconds N]";
+    "usage: compare [--seed N] [--frames N] [--records N] [--signals N] [--chains N] [--places N] [--profiles N] [--seconds N]";
 const THREADS: u64 = 2;
 /// A message, and the numbers that signalling tells or refuses with.
 const SIGNAL_NUMBERS: [usize; 7] = [0, 1, 12, 24, 25, 26, 36];
+
+/// Passing, some of reading's refusals, and the profile's own.
+const PROFILE_NUMBERS: [usize; 8] = [0, 1, 6, 9, 30, 31, 32, 33];
 
 struct Options {
     seed: u64,
@@ -20,6 +23,7 @@ struct Options {
     chains: u64,
     /// Records whose every place is asked about.
     places: u64,
+    profiles: u64,
     /// Rounds go on until the time is up.
     seconds: Option<u64>,
 }
@@ -56,6 +60,7 @@ fn options(mut arguments: impl Iterator<Item = String>) -> Result<Options, Strin
         signals: 20_000,
         chains: 5_000,
         places: 200,
+        profiles: 40_000,
         seconds: None,
     };
     while let Some(name) = arguments.next() {
@@ -68,6 +73,7 @@ fn options(mut arguments: impl Iterator<Item = String>) -> Result<Options, Strin
             "--signals" => options.signals = value,
             "--chains" => options.chains = value,
             "--places" => options.places = value,
+            "--profiles" => options.profiles = value,
             "--seconds" => options.seconds = Some(value),
             _ => return Err(format!("{name} is not known")),
         }
@@ -121,6 +127,7 @@ fn part(seed: u64, options: &Options, thread: u64) -> Result<Tally, Found> {
         (Sort::Signals, options.signals),
         (Sort::Chain, options.chains),
         (Sort::Places, options.places),
+        (Sort::Profile, options.profiles),
     ];
     for (sort, count) in sorts {
         for case in (thread..count).step_by(THREADS as usize) {
@@ -152,6 +159,12 @@ fn report(tally: &Tally) -> ExitCode {
     for number in SIGNAL_NUMBERS {
         let count = tally.signal_numbers[number];
         println!("signalling, number {number}: {count} times");
+        never |= count == 0;
+    }
+    println!("profiles {}", tally.profiles);
+    for number in PROFILE_NUMBERS {
+        let count = tally.profile_numbers[number];
+        println!("profiles, number {number}: {count} times");
         never |= count == 0;
     }
     let chains = [

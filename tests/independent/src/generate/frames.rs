@@ -94,7 +94,7 @@ impl Draft {
         self.set_fl();
     }
 
-    fn set_fl(&mut self) {
+    pub fn set_fl(&mut self) {
         self.fl = self.formula();
     }
 

@@ -1,0 +1,2 @@
+pub mod SizeExamples
+pub mod SizeLaws

@@ -1,0 +1,43 @@
+use Rattle.places.specs.Places.{unsized}
+use Rattle.collision.specs.Collisions.{oneTo}
+use Rattle.collision.proofs.Seeking.{Sought, ofOne, found, not-yet, none-left, one-begins, one-told}
+use Prim.Native.Nat.{_-_}
+use borrow.Author.Needs.{needs}
+use Rattle.collision.proofs.first_unsized.Statement.{statement}
+use Rattle.collision.proofs.first_unsized.Tie as tie
+
+abbrev Inv-loop : tie.InvT-loop
+Inv-loop frame n i₀ i = Sought (ofOne unsized frame) i n (oneTo unsized frame n)
+
+abbrev μ-loop : tie.MeasureT-loop
+μ-loop frame n i₀ i = n - i
+
+loop-holds : tie.Need-loop-holds Inv-loop μ-loop
+loop-holds c = one-begins unsized _ _
+
+returns : tie.Need-returns Inv-loop μ-loop
+returns c =
+    found (ofOne unsized _) _ _ _ (c .before .before .before .before .loop .inv) (c .before .before .before .loop-test .taken) (one-told unsized _ _ _ _ _ (c .before .before .placed .ensures) (c .before .is-unsized .ensures) (c .if1 .taken))
+
+loop-again : tie.Need-loop-again Inv-loop μ-loop
+loop-again c =
+    not-yet (ofOne unsized _) _ _ _ (c .before .before .before .before .loop .inv) (c .before .before .before .loop-test .taken) (one-told unsized _ _ _ _ _ (c .before .before .placed .ensures) (c .before .is-unsized .ensures) (c .if1 .left))
+
+returns-2 : tie.Need-returns-2 Inv-loop μ-loop
+returns-2 c = none-left (ofOne unsized _) _ _ _ (c .before .loop .inv) (c .loop-test .left)
+
+pub first-unsized-spec : {M : Type 1} → statement M
+first-unsized-spec =
+    tie.close
+    (tie.spec
+    Inv-loop
+    μ-loop
+    loop-holds
+    (λ c. search needs)
+    (λ c κs. search needs)
+    (λ c κs. search needs)
+    returns
+    (λ c. search needs)
+    (λ c. search needs)
+    loop-again
+    returns-2)
