@@ -16,7 +16,7 @@ example: target/example/controller
 
 target/example/controller: examples/controller.c include/spindlewren.h $(shell find crates crates.txt -type f)
 	@mkdir -p target/example
-	@$(CC) -std=c99 -O2 -Wall -Wextra -Wpedantic -Werror -Iinclude examples/controller.c "$$(tools/archive controller)" -o $@
+	@$(CC) -std=c99 -O2 -Wall -Wextra -Wpedantic -Werror -Iinclude examples/controller.c "$$(tools/archive controller)" "$$(tools/archive sizing)" -o $@
 
 command: target/command/spindlewren
 	@echo "$(CURDIR)/target/command/spindlewren"

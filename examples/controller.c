@@ -1,4 +1,4 @@
-/* Walks a record: a line for each frame, lost mark and idle period, and the sub-channels of the first frame. */
+/* Walks a record: a line for each frame, lost mark and idle period, the sub-channels of the first frame, and how many tests were put. */
 #define _POSIX_C_SOURCE 200809L
 #include "spindlewren.h"
 
@@ -103,6 +103,13 @@ static int begun(int argc, char **argv, uint8_t *walk) {
     return 1;
 }
 
+/* How many times the whole walk put the acceptance test to a place. */
+static void closing_line(struct record record, size_t limit) {
+    uint8_t answer[SPINDLEWREN_LOOKS];
+    if (spindlewren_looks(record.bytes, record.len, limit, answer, sizeof answer) == 0)
+        printf("tests put to places: %llu\n", (unsigned long long)spindlewren_number(answer, 0, sizeof answer));
+}
+
 int main(int argc, char **argv) {
     uint8_t walk[SPINDLEWREN_WALK];
     const uint8_t *first = NULL;
@@ -124,5 +131,6 @@ int main(int argc, char **argv) {
         }
     } while (walk[SPINDLEWREN_KIND] != SPINDLEWREN_IS_DONE);
     if (first != NULL) sub_channels(first, first_place);
+    closing_line(record, walk[SPINDLEWREN_LIMIT]);
     return EXIT_SUCCESS;
 }

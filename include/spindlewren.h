@@ -16,6 +16,7 @@ enum {
     SPINDLEWREN_ANSWER = 406, /* spindlewren_read */
     SPINDLEWREN_PART = 4,     /* spindlewren_fic, spindlewren_stream */
     SPINDLEWREN_WALK = 21,    /* spindlewren_begin, spindlewren_step */
+    SPINDLEWREN_LOOKS = 8,    /* spindlewren_looks */
     SPINDLEWREN_WHY = 10      /* spindlewren_why */
 };
 
@@ -129,6 +130,11 @@ uint8_t spindlewren_why(const uint8_t *record, size_t record_len, size_t limit, 
 /* The frame read and written again into `out`, of SPINDLEWREN_FRAME bytes, with the level that reading hands on: what a relay sends on.
    Reading's number, then 1 for an output of another length. In an archive of its own: tools/archive relays. */
 uint8_t spindlewren_relay(const uint8_t *frame, size_t frame_len, uint8_t *out, size_t out_len);
+
+/* How many times the walk over a record with that limit puts the acceptance test to a place, in SPINDLEWREN_LOOKS bytes, high byte first:
+   at most twice (record_len - 6,143), and 0 below 6,144 bytes. 27 for a limit outside 1 to 8, then 1 for an answer of another length.
+   In an archive of its own: tools/archive sizing. */
+uint8_t spindlewren_looks(const uint8_t *record, size_t record_len, size_t limit, uint8_t *answer, size_t answer_len);
 
 /* The number in `width` bytes from `at` on, high byte first. */
 static inline uint64_t spindlewren_number(const uint8_t *bytes, size_t at, size_t width) {

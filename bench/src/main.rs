@@ -1,5 +1,10 @@
 //! Times the proved exports beside the independent implementation, round by round in turn.
 
+mod hunting;
+#[cfg(feature = "memmem")]
+mod memmem;
+mod sums;
+
 use independent::abi;
 use independent::frame::{read, Timestamp, EMPTY, FRAME};
 use independent::generate::{Random, Sort};
@@ -14,6 +19,8 @@ const USAGE: &str = "usage: bench [--rounds N], N at least 1";
 const HUNTED: usize = 4 << 20;
 const CLEAN_FRAMES: usize = 400;
 const TIMES: usize = 1000;
+/// Bytes of a sum: headers of NST 0, 1, 2, 14 and 64, and longer ones up to a full main stream's and a frame's.
+const LENGTHS: [usize; 9] = [6, 10, 14, 62, 64, 262, 1000, 6112, 6144];
 /// The limit of the walks timed.
 const LIMIT: usize = 3;
 
@@ -45,6 +52,9 @@ fn main() -> ExitCode {
     bench.readings();
     bench.sums();
     bench.print();
+    println!();
+    print_sums(rounds);
+    hunting::print(rounds);
     ExitCode::SUCCESS
 }
 
@@ -164,6 +174,42 @@ impl Bench {
                 proved / rust
             );
         }
+    }
+}
+
+/// Every sum at every length, round by round in turn: the least of the rounds, since other work can only add to it.
+fn print_sums(rounds: usize) {
+    let sums = sums::all();
+    let bytes = Random::new(1, Sort::Frame, 0).bytes(FRAME);
+    let names: Vec<&str> = sums.iter().map(|&(name, _)| name).collect();
+    println!("| bytes | {} | before / fast |", names.join(" | "));
+    println!("|---{}|---|", "|---".repeat(names.len()));
+    for length in LENGTHS {
+        let part = &bytes[..length];
+        for &(name, one) in &sums {
+            assert!(
+                name == "crate crc" || one(part) == sum(part),
+                "{name}, {length} bytes"
+            );
+        }
+        let times = 400_000 / (length + 40);
+        let mut least = vec![f64::INFINITY; sums.len()];
+        for _ in 0..rounds * 20 {
+            for (least, &(_, one)) in least.iter_mut().zip(&sums) {
+                let mut run = || {
+                    for _ in 0..times {
+                        black_box(one(black_box(part)));
+                    }
+                };
+                *least = least.min(nanoseconds(&mut run) / times as f64);
+            }
+        }
+        let columns: Vec<String> = least.iter().map(|time| format!("{time:.1}")).collect();
+        println!(
+            "| {length} | {} | {:.2} |",
+            columns.join(" | "),
+            least[2] / least[0]
+        );
     }
 }
 

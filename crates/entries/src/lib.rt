@@ -79,7 +79,7 @@ fn fields(bytes: &[u8]) -> Fields
 pub extern "C" fn spindlewren_sum(bytes: &[u8]) -> u16
     ensures { λ r. ⌜ r ≡ sumOf (now (bytes .entry)) ⌝ }
 {
-    sum::sum(bytes)
+    ring::sum(bytes)
 }
 
 // Writing's refusal, 0 for none; field bytes of another length are refused with 1.

@@ -88,7 +88,7 @@ fn body_in(frame: &[u8]) -> u8
     let seen = look_over(frame, fc.nst);
     let n = fc.nst as usize;
     body(
-        sum::sum_between(frame, 4, 4 + ((n + 1) * 4 + 2)),
+        ring::sum_between(frame, 4, 4 + ((n + 1) * 4 + 2)),
         eoh.sum,
         fc.fct,
         seen.above,

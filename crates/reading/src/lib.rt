@@ -26,7 +26,7 @@ fn main_sum(frame: &[u8]) -> u16
     ensures { λ r. ⌜ r ≡ sumOf (mainOf (now (frame .entry))) ⌝ }
 {
     let fc = fields::fc(frame);
-    sum::sum_between(
+    ring::sum_between(
         frame,
         4 + (fc.nst as usize + 2) * 4,
         4 + (fc.fl as usize + 1) * 4,

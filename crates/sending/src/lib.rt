@@ -72,7 +72,7 @@ fn sum_before(bytes: &[u8], e: usize) -> u16
     requires { ⌜ e ≤ length (now bytes) ⌝ }
     ensures { λ r. ⌜ r ≡ sumOf (take e (now (bytes .entry))) ⌝ }
 {
-    sum::sum(&bytes[..e])
+    ring::sum(&bytes[..e])
 }
 
 fn put_last(out: &mut [u8], at: usize, m: &[u8], i: usize)

@@ -165,7 +165,7 @@ module _ (junk : List ℕ) (d : Damaged junk) (b : Bool) (n : ℕ) where
         alternating = λ i h. rw (stands-there (suc i) h, stands-there i (omega arith), plain-word (nth (not b) i), plain-word (nth b i)) (turns b i);
         alone = λ q z room ok.
             let small = bytes-append junk (inTurn b n) (d .small) (inTurn-small b n) in
-            start-found q z room (synced-marked bytes q small (starts (getD bytes (q + 1) 0)) (λ x y. rw x) (λ x y. rw x) (synced ok));
+            start-found q z room (synced-marked bytes q small (starts (getD bytes (q + 1) 0)) (λ x y z. rw x) (λ x y z. rw x) (synced ok));
       }
     where
       synced : {f : List ℕ} → Keeping f → OneFsync (fsyncOf f)

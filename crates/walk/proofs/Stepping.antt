@@ -20,8 +20,8 @@ use Rattle.reading.proofs.Answered.{got-header, got-table, got-refused, got-non
 use Rattle.walk.specs.declared.Position.{Position}
 use Rattle.walk.specs.declared.Moved.{Moved}
 use Rattle.walk.specs.Walk.{Item, Frame, Lost, Idle, Done, Stepped, differ, confirmed, itemAt, keeps, stepOf, hunting, locked}
-use Rattle.walk.specs.Records.{part, judged, fsync1At, frameIn, tableOf}
-use Rattle.walk.specs.StepClauses.{NoneStands, Spent, movedWith, movedAt}
+use Rattle.walk.specs.Records.{part, judged, fsync1At, frameIn, NoneStands, tableOf}
+use Rattle.walk.specs.StepClauses.{Spent, movedWith, movedAt}
 use Rattle.walk.proofs.ByRules.{confirmed-stands, not-standing, unfollowed, stands-keeps, stands-item}
 use Rattle.walk.proofs.Laws.{step-short, step-spent, step-kept, step-missed, step-last, step-confirmed, step-passed}
 

@@ -2,7 +2,8 @@
 -- Assumes nothing.
 use mathlib.Core.Bool.{Bool, not, _&&_}
 use mathlib.Core.List.{List, [], _∷_}
-use Prim.Native.Nat.{ℕ, zero, suc, _≤_}
+use mathlib.Core.Path.{_≡_}
+use Prim.Native.Nat.{ℕ, zero, suc, _+_, _≤_, _<_}
 use lib.Dec.{eqb, leb}
 use lib.ListN.{length, take, drop}
 use Rattle.frame.specs.declared.Stream.{Stream}
@@ -44,6 +45,12 @@ judged limit bytes =
 -- the frame at a place, with the header that the reading gives there
 abbrev pub frameIn : List ℕ → ℕ → Item
 frameIn bytes p = Frame p (headerFor (part bytes p))
+
+-- no place from a up to b stands: each has its period, and that is refused
+pub record NoneStands (bytes : List ℕ) (a b : ℕ) : Type 0 where
+  pub ahead : a ≤ b
+  pub room : (p : ℕ) → a ≤ p → p < b → p + 6144 ≤ length bytes
+  pub refused : (p : ℕ) → a ≤ p → p < b → refusalOf (part bytes p) ≡ 0 → ⊥
 
 -- the table beside an item: that of its frame, and all zero unless it is a frame
 unfoldable pub tableOf : List ℕ → Item → List Stream

@@ -13,12 +13,6 @@ use Rattle.walk.specs.declared.Position.{Position}
 use Rattle.walk.specs.Walk.{stepOf}
 use Rattle.walk.specs.Records.{part, judged, tableOf}
 
--- no place from a up to b stands: each has its period, and that is refused
-pub record NoneStands (bytes : List ℕ) (a b : ℕ) : Type 0 where
-  pub ahead : a ≤ b
-  pub room : (p : ℕ) → a ≤ p → p < b → p + 6144 ≤ length bytes
-  pub refused : (p : ℕ) → a ≤ p → p < b → refusalOf (part bytes p) ≡ 0 → ⊥
-
 -- in lock at p after k misses, with fewer than the limit, the place is refused with n, and is no null transmission
 pub record Missed (limit : ℕ) (bytes : List ℕ) (p k n : ℕ) : Type 0 where
   pub room : p + 6144 ≤ length bytes

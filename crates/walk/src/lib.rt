@@ -7,8 +7,8 @@ ghost use lib.ListN.{length};
 ghost use Rattle.frame.specs.Rules.{refusalOf};
 ghost use Rattle.frame.specs.Answers.{Reads};
 ghost use Rattle.walk.specs.Walk.{Lost, Idle, Done, confirmed, locked, hunting};
-ghost use Rattle.walk.specs.Records.{part, judged, fsync1At, frameIn, limitRefusalOf, begunWith, stepAt};
-ghost use Rattle.walk.specs.StepClauses.{NoneStands, Missed, movedWith, movedAt};
+ghost use Rattle.walk.specs.Records.{part, judged, fsync1At, frameIn, NoneStands, limitRefusalOf, begunWith, stepAt};
+ghost use Rattle.walk.specs.StepClauses.{Missed, movedWith, movedAt};
 use frame::Answer;
 use frame::Header;
 use frame::Reading;
@@ -176,14 +176,15 @@ fn done_step(position: Position) -> Moved
     }
 }
 
-// Whether p begins like a frame: with the first two bytes of one of the sync words, 073AB6 or F8C549.
+// Whether p begins like a frame. The sync words, 073AB6 and F8C549, are each other's complement: in both, neighbouring bytes differ by 3D and then by 8C.
 fn mark_at(bytes: &[u8], p: usize) -> bool
     requires { ⌜ p + 6144 ≤ length (now bytes) ⌝ }
     ensures { λ r. ⌜ (r ≡ false → refusalOf (part (now (bytes .entry)) p) ≡ 0 → ⊥) ⌝ }
 {
     let a = bytes[p + 1];
     let b = bytes[p + 2];
-    (a == 0x07) & (b == 0x3A) | (a == 0xF8) & (b == 0xC5)
+    let c = bytes[p + 3];
+    ((a ^ b) == 0x3D) & ((b ^ c) == 0x8C)
 }
 
 // Whether one of the 64 places from p on begins like a frame. There is no early exit, so that the loop compiles to vector compares.
@@ -218,12 +219,15 @@ fn past_unmarked(bytes: &[u8], from: usize) -> usize
     p
 }
 
-// On to the first place that begins like a frame, or to the end.
-fn next_mark(bytes: &[u8], from: usize) -> usize
-    requires { ⌜ 6144 ≤ length (now bytes) ⌝ }
+// On to the first place that begins like a frame, or to the end. Places that it passes need not be judged.
+pub fn next_mark(bytes: &[u8], from: usize) -> usize
     ensures { λ r. ⌜ NoneStands (now (bytes .entry)) from r ⌝ }
 {
-    let last = bytes.len() - 6144;
+    let n = bytes.len();
+    if n < 6144 {
+        return from;
+    }
+    let last = n - 6144;
     let mut p = past_unmarked(bytes, from);
     while p <= last {
         if mark_at(bytes, p) {

@@ -108,14 +108,14 @@ fn put_header(frame: &mut [u8], g: Given, fl: usize) {
     putting::put4(frame, 4, fc(g, fl));
     put_table(frame, g);
     putting::put2(frame, end, 0x1234);
-    let sum = sum::sum_between(frame, 4, end + 2);
+    let sum = ring::sum_between(frame, 4, end + 2);
     putting::put2(frame, end + 2, sum ^ (g.header_off as u16));
 }
 
 // What follows the main stream: its sum, Rfu FFFF, Rfa FF, the timestamp.
 fn put_end(frame: &mut [u8], g: Given, start: usize, end: usize) {
     if end < 65536 {
-        let sum = sum::sum_between(frame, start, end);
+        let sum = ring::sum_between(frame, start, end);
         putting::put2(frame, end, sum ^ (g.main_off as u16));
         putting::put2(frame, end + 2, 0xffff);
         putting::put4(frame, end + 4, 0xff000000 + (g.time % 16777216) as usize);

@@ -195,9 +195,9 @@ fn kept(given: &[u8], x: Fields, n: usize) {
     let mut out = [0u8; 6144];
     put_main(&mut out, 0, 6144);
     line::text(b"sum of the output before writing refused for ");
-    line::sum(given, sum::sum(&out), 0x4bd7);
+    line::sum(given, ring::sum(&out), 0x4bd7);
     write(x, n, &mut out);
-    line::sum(b"sum of it after", sum::sum(&out), 0x4bd7);
+    line::sum(b"sum of it after", ring::sum(&out), 0x4bd7);
 }
 
 fn refused() {
@@ -209,7 +209,7 @@ fn refused() {
 fn prefix(bytes: &[u8], n: usize, expected: u16) {
     line::text(b"sum of the written frame's first ");
     line::number(n);
-    line::sum(b"", sum::sum_between(bytes, 0, n), expected);
+    line::sum(b"", ring::sum_between(bytes, 0, n), expected);
 }
 
 // The whole frame's sum takes in the two sums inside, so it is the same for every header and main stream of these lengths:

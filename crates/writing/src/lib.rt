@@ -151,11 +151,11 @@ fn fill(x: Fields, main: &[u8], out: &mut [u8])
 {
     let end = 10 + 4 * x.count;
     put_header(out, x, fl(x));
-    let sum = sum::sum_between(out, 4, end);
+    let sum = ring::sum_between(out, 4, end);
     putting::put2(out, end, sum);
     put_main(out, end + 2, main);
     let next = end + 2 + main.len();
-    let main_sum = sum::sum_between(out, end + 2, next);
+    let main_sum = ring::sum_between(out, end + 2, next);
     put_end(out, next, x, main_sum);
     pad(out, next + 8);
 }

@@ -15,6 +15,7 @@ pub const ITEM: usize = 10;
 pub const WALK: usize = STATE + ITEM;
 pub const KIND: usize = STATE;
 pub const SIGNAL: usize = 24;
+pub const LOOKS: usize = 8;
 pub const WHY: usize = 10;
 
 /// The kinds of item.
@@ -24,9 +25,11 @@ pub const IDLE_ITEM: u8 = 2;
 pub const DONE_ITEM: u8 = 3;
 
 #[link(name = "controller", kind = "static")]
+#[link(name = "boot", kind = "static")]
 #[link(name = "entries", kind = "static")]
 #[link(name = "reasons", kind = "static")]
 #[link(name = "relays", kind = "static")]
+#[link(name = "sizing", kind = "static")]
 #[link(name = "signals", kind = "static")]
 extern "C" {
     fn spindlewren_read(
@@ -52,6 +55,7 @@ extern "C" {
     fn spindlewren_step(record: *const u8, record_len: usize, walk: *mut u8, walk_len: usize)
         -> u8;
     fn spindlewren_sum(bytes: *const u8, bytes_len: usize) -> u16;
+    fn spindlewren_boot_sum(bytes: *const u8, bytes_len: usize) -> u16;
     fn spindlewren_write(
         fields: *const u8,
         fields_len: usize,
@@ -66,6 +70,13 @@ extern "C" {
         record_len: usize,
         limit: usize,
         n: usize,
+        answer: *mut u8,
+        answer_len: usize,
+    ) -> u8;
+    fn spindlewren_looks(
+        record: *const u8,
+        record_len: usize,
+        limit: usize,
         answer: *mut u8,
         answer_len: usize,
     ) -> u8;
@@ -138,8 +149,25 @@ pub fn step(record: &[u8], walk: &mut [u8]) -> u8 {
     unsafe { spindlewren_step(record.as_ptr(), record.len(), walk.as_mut_ptr(), walk.len()) }
 }
 
+pub fn looks(record: &[u8], limit: usize, answer: &mut [u8]) -> u8 {
+    unsafe {
+        spindlewren_looks(
+            record.as_ptr(),
+            record.len(),
+            limit,
+            answer.as_mut_ptr(),
+            answer.len(),
+        )
+    }
+}
+
 pub fn sum(bytes: &[u8]) -> u16 {
     unsafe { spindlewren_sum(bytes.as_ptr(), bytes.len()) }
+}
+
+/// The boot loader's, which is the small one.
+pub fn boot_sum(bytes: &[u8]) -> u16 {
+    unsafe { spindlewren_boot_sum(bytes.as_ptr(), bytes.len()) }
 }
 
 pub fn write(fields: &[u8], main: &[u8], out: &mut [u8]) -> u8 {

@@ -1,6 +1,7 @@
 //! One case through the proved exports and through this implementation.
 
 mod chains;
+mod looks;
 mod reasons;
 mod signals;
 
@@ -44,6 +45,8 @@ pub struct Tally {
     pub items: [u64; 4],
     /// Locks lost, by the walk's limit; at 0, limits refused.
     pub limits: [u64; 9],
+    /// Tests put to places, over all walks.
+    pub looks: u64,
     pub chains: u64,
     /// Over all chains: the relays, those that met a wrong sum, and the chains in which nothing was damaged.
     pub relays: u64,
@@ -69,6 +72,7 @@ impl Default for Tally {
             numbers: [0; 14],
             items: [0; 4],
             limits: [0; 9],
+            looks: 0,
             chains: 0,
             relays: 0,
             wrong_sums: 0,
@@ -91,6 +95,7 @@ impl AddAssign<&Tally> for Tally {
         add_each(&mut self.numbers, &other.numbers);
         add_each(&mut self.items, &other.items);
         add_each(&mut self.limits, &other.limits);
+        self.looks += other.looks;
         self.chains += other.chains;
         self.relays += other.relays;
         self.wrong_sums += other.wrong_sums;
@@ -163,7 +168,9 @@ impl Case<'_> {
         let end = self.random.within(0, bytes.len());
         let start = self.random.within(0, end);
         let part = &bytes[start..end];
-        self.same("sum", &abi::sum(part), &sum(part))
+        let expected = sum(part);
+        self.same("boot loader's sum", &abi::boot_sum(part), &expected)?;
+        self.same("sum", &abi::sum(part), &expected)
     }
 
     fn read(&mut self, frame: &[u8], reading: Result<Reading, u8>) -> Checked<Vec<u8>> {
@@ -306,6 +313,7 @@ impl Case<'_> {
     fn record_within(&mut self, record: &Record, limit: usize) -> Checked<()> {
         let (frames, items) = self.walk(&record.bytes, limit)?;
         self.any_item(&record.bytes, limit, items)?;
+        self.looked(&record.bytes, limit)?;
         match record.run {
             Some(run) => self.run_is_handed_out(&record.bytes, run, limit, &frames),
             None => Ok(()),
@@ -315,6 +323,7 @@ impl Case<'_> {
     fn limit_outside(&mut self, record: &[u8], limit: usize) -> Checked<()> {
         self.tally.limits[0] += 1;
         self.begun(limit)?;
+        self.looked(record, limit)?;
         let n = self.random.pick(&[0, 1, usize::MAX]);
         self.item(record, limit, n, nth(record, limit, n))
     }

@@ -11,6 +11,7 @@ pub mod line;
 #[cfg(feature = "proved")]
 pub mod line_abi;
 pub mod listing;
+pub mod looks;
 pub mod reed_solomon;
 pub mod relay;
 pub mod signalling;

@@ -4,7 +4,7 @@ use Prim.Native.Nat.{_+_, _-_, _≤_}
 use native.Mathlib.Omega.{arith}
 use native.Mathlib.Nat.{le-antisymm}
 use borrow.Author.Needs.{needs}
-use Rattle.walk.specs.StepClauses.{NoneStands}
+use Rattle.walk.specs.Records.{NoneStands}
 use Rattle.walk.proofs.Stepping.{none-passed, one-passed, then-passed}
 use Rattle.octets.proofs.Deciding.{neither}
 use Rattle.walk.proofs.marked.Statement.{statement}

@@ -2,7 +2,7 @@ use mathlib.Core.Path.{_≡_, refl}
 use Prim.Native.Nat.{suc, _-_}
 use lib.ListN.{length}
 use borrow.Author.Needs.{needs}
-use Rattle.walk.specs.StepClauses.{NoneStands}
+use Rattle.walk.specs.Records.{NoneStands}
 use Rattle.walk.proofs.Stepping.{none-passed, then-passed}
 use Rattle.walk.proofs.past_unmarked.Statement.{statement}
 use Rattle.walk.proofs.past_unmarked.Tie as tie

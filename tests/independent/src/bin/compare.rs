@@ -143,6 +143,8 @@ fn report(tally: &Tally) -> ExitCode {
     println!("items: frames {frames}, lost marks {lost}, idle {idle}, done {done}");
     let [outside, inside @ ..] = tally.limits;
     println!("locks lost with limits 1 to 8 {inside:?}, limits refused {outside}");
+    println!("tests put by all walks {}", tally.looks);
+    never |= tally.looks == 0;
     for (number, count) in tally.numbers.iter().enumerate() {
         println!("number {number}: {count} cases");
     }

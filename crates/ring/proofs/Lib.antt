@@ -1,0 +1,4 @@
+pub mod Between
+pub mod Feedback
+pub mod Lists
+pub mod Turning
