@@ -1,3 +1,5 @@
+-- `capacity::each_a` meets its contract.
+-- Assumes nothing.
 use Rattle.capacity.specs.Sizes.{equalA}
 use Rattle.capacity.proofs.SizeLaws.{each-none}
 use native.Mathlib.Omega.{arith}

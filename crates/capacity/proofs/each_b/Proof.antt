@@ -1,3 +1,5 @@
+-- `capacity::each_b` meets its contract.
+-- Assumes nothing.
 use Rattle.capacity.specs.Sizes.{equalB}
 use Rattle.capacity.proofs.SizeLaws.{each-none}
 use native.Mathlib.Omega.{arith}

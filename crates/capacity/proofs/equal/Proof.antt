@@ -1,3 +1,5 @@
+-- `capacity::equal` meets its contract.
+-- Assumes nothing.
 use Rattle.capacity.proofs.SizeLaws.{equal-a, equal-b, equal-none}
 use native.Mathlib.Omega.{arith}
 use borrow.Author.Needs.{needs}

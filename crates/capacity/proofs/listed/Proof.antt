@@ -1,3 +1,5 @@
+-- `capacity::listed` meets its contract.
+-- Assumes nothing.
 use Rattle.capacity.specs.Sizes.{unequalSizes}
 use Rattle.capacity.proofs.SizeLaws.{size-le}
 use mathlib.Core.Path.{refl}

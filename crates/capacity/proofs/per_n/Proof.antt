@@ -1,3 +1,5 @@
+-- `capacity::per_n` meets its contract.
+-- Assumes nothing.
 use Rattle.capacity.proofs.SizeLaws.{per-le, per-none, per-some}
 use native.Mathlib.Omega.{arith}
 use borrow.Author.Needs.{needs}

@@ -1,3 +1,5 @@
+-- `capacity::row` meets its contract.
+-- Assumes nothing.
 use Rattle.octets.proofs.Deciding.{tests}
 use borrow.Author.Needs.{needs}
 use Rattle.capacity.proofs.row.Statement.{statement}

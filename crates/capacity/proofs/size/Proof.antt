@@ -1,3 +1,5 @@
+-- `capacity::size` meets its contract.
+-- Assumes nothing.
 use Rattle.capacity.proofs.SizeLaws.{size-equal, size-other, size-unequal}
 use native.Mathlib.Omega.{arith}
 use borrow.Author.Needs.{needs}

@@ -1,3 +1,5 @@
+-- `capacity::unequal` meets its contract.
+-- Assumes nothing.
 use Rattle.capacity.proofs.SizeLaws.{unequal-index, unequal-none, unequal-some}
 use native.Mathlib.Omega.{arith}
 use borrow.Author.Needs.{needs}

@@ -1,3 +1,5 @@
+-- `capacity::units` meets its contract.
+-- Assumes nothing.
 use Rattle.capacity.proofs.SizeLaws.{taken-none, taken-some}
 use native.Mathlib.Omega.{arith}
 use borrow.Author.Needs.{needs}

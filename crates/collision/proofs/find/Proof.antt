@@ -1,3 +1,5 @@
+-- `collision::find` meets its contract.
+-- Assumes nothing.
 use Rattle.collision.proofs.ByNumber.{finds}
 use borrow.Author.Needs.{needs}
 use Rattle.collision.proofs.find.Statement.{statement}

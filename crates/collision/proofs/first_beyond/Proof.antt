@@ -1,3 +1,5 @@
+-- `collision::first_beyond` meets its contract.
+-- Assumes nothing.
 use Rattle.places.specs.Places.{beyond}
 use Rattle.collision.specs.Collisions.{oneTo}
 use Rattle.collision.proofs.Seeking.{Sought, ofOne, found, not-yet, none-left, one-begins, one-told}

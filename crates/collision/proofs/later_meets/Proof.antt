@@ -1,3 +1,5 @@
+-- `collision::later_meets` meets its contract.
+-- Assumes nothing.
 use Rattle.places.specs.Places.{meets}
 use Rattle.collision.specs.Collisions.{laterTo}
 use Rattle.collision.proofs.Seeking.{Sought, ofTwo, found, not-yet, none-left, later-begins, two-told}

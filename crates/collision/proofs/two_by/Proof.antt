@@ -1,3 +1,5 @@
+-- `collision::two_by` meets its contract.
+-- Assumes nothing.
 use Rattle.collision.proofs.ByNumber.{by-30, by-31, by-32, by-33, by-other}
 use borrow.Author.Needs.{needs}
 use Rattle.collision.proofs.two_by.Statement.{statement}

@@ -1,3 +1,5 @@
+-- `collision::two_same` meets its contract.
+-- Assumes nothing.
 use Rattle.places.specs.Places.{sameScid}
 use Rattle.collision.specs.Collisions.{earlierTo}
 use Rattle.collision.proofs.Seeking.{Sought, hasLater, pair-begins, pair-found, pair-not-yet, no-pair}

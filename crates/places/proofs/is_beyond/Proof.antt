@@ -1,3 +1,5 @@
+-- `places::is_beyond` meets its contract.
+-- Assumes nothing.
 use Rattle.places.specs.Places.{beyond}
 use borrow.Author.Needs.{needs}
 use Rattle.places.proofs.is_beyond.Statement.{statement}

@@ -1,3 +1,5 @@
+-- `places::is_unsized` meets its contract.
+-- Assumes nothing.
 use Rattle.places.specs.Places.{unsized}
 use borrow.Author.Needs.{needs}
 use Rattle.places.proofs.is_unsized.Statement.{statement}

@@ -1,3 +1,5 @@
+-- `places::meet` meets its contract.
+-- Assumes nothing.
 use Rattle.places.specs.Places.{meets}
 use borrow.Author.Needs.{needs}
 use Rattle.places.proofs.meet.Statement.{statement}

@@ -1,3 +1,5 @@
+-- `places::placed` meets its contract.
+-- Assumes nothing.
 use Rattle.places.specs.Places.{placeOf}
 use borrow.Author.Needs.{needs}
 use Rattle.places.proofs.placed.Statement.{statement}

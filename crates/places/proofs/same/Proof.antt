@@ -1,3 +1,5 @@
+-- `places::same` meets its contract.
+-- Assumes nothing.
 use Rattle.places.specs.Places.{sameScid}
 use borrow.Author.Needs.{needs}
 use Rattle.places.proofs.same.Statement.{statement}

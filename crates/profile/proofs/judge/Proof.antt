@@ -1,3 +1,5 @@
+-- `profile::judge` meets its contract.
+-- Assumes nothing.
 use Rattle.frame.proofs.Accepting.{judged}
 use Rattle.profile.proofs.Pairs.{profile-refused, profile-judged}
 use native.Mathlib.Omega.{arith}

@@ -1,3 +1,5 @@
+-- `profile::some_beyond` meets its contract.
+-- Assumes nothing.
 use Rattle.places.specs.Places.{some, somePair, beyond}
 use Rattle.profile.proofs.Pairs.{some-turn}
 use mathlib.Core.Bool.{false}

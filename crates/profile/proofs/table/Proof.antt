@@ -1,3 +1,5 @@
+-- `profile::table` meets its contract.
+-- Assumes nothing.
 use Rattle.places.specs.Places.{placesTo}
 use Rattle.profile.specs.ProfileClauses.{tabled}
 use Rattle.profile.proofs.Pairs.{table-more}

@@ -1,3 +1,5 @@
+-- `profiles::put_three` meets its contract.
+-- Assumes nothing.
 use Rattle.profiles.proofs.ProfileTold.{three-bytes}
 use borrow.Author.Needs.{needs}
 use Rattle.profiles.proofs.put_three.Statement.{statement}

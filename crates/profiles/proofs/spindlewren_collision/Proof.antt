@@ -1,3 +1,5 @@
+-- `profiles::spindlewren_collision` meets its contract.
+-- Assumes nothing.
 use Rattle.profiles.proofs.ProfileTold.{not-three, refused, told}
 use borrow.Author.Needs.{needs}
 use Rattle.profiles.proofs.spindlewren_collision.Statement.{statement}
