@@ -23,6 +23,7 @@ struct verb {
 };
 
 void list(const struct request *asked);
+void profile(const struct request *asked);
 void why(const struct request *asked);
 
 struct record {
@@ -32,6 +33,9 @@ struct record {
 
 /* The whole file, mapped, so that its size does not matter. Ends the command where that cannot be. */
 struct record map(const char *file);
+
+/* A walk over the file from its beginning: the heading, once nothing is refused, and then each item is told, done the last, as the walk's bytes have it. */
+void each_item(const struct request *asked, const char *heading, void (*tell)(struct record record, const uint8_t *walk, void *to), void *to);
 
 /* A number in digits alone; 0 where the word is none. One that is too large for its type is the largest: it is outside every range here. */
 int digits(const char *word, size_t *number);

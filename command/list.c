@@ -3,10 +3,11 @@
 
 #include <stdio.h>
 
-static void line(struct record record, const uint8_t *walk) {
+static void line(struct record record, const uint8_t *walk, void *to) {
     unsigned long long place = spindlewren_number(walk, SPINDLEWREN_ITEM, 8);
     unsigned number = walk[SPINDLEWREN_NUMBER];
     uint8_t answer[SPINDLEWREN_ANSWER];
+    (void)to;
     switch (walk[SPINDLEWREN_KIND]) {
     case SPINDLEWREN_IS_LOST: printf("%llu lost %u -\n", place, number); break;
     case SPINDLEWREN_IS_IDLE: printf("%llu idle %u -\n", place, number); break;
@@ -19,14 +20,5 @@ static void line(struct record record, const uint8_t *walk) {
 }
 
 void list(const struct request *asked) {
-    struct record record = map(asked->file);
-    uint8_t walk[SPINDLEWREN_WALK];
-    uint8_t refusal = spindlewren_begin(asked->limit, walk, sizeof walk);
-    if (refusal != SPINDLEWREN_ACCEPTED) refuse(asked->file, refusal);
-    puts("place kind code level");
-    do {
-        refusal = spindlewren_step(record.bytes, record.len, walk, sizeof walk);
-        if (refusal != SPINDLEWREN_ACCEPTED) refuse(asked->file, refusal);
-        line(record, walk);
-    } while (walk[SPINDLEWREN_KIND] != SPINDLEWREN_IS_DONE);
+    each_item(asked, "place kind code level", line, NULL);
 }

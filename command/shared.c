@@ -55,3 +55,17 @@ int digits(const char *word, size_t *number) {
     *number = n;
     return 1;
 }
+
+void each_item(const struct request *asked, const char *heading, void (*tell)(struct record record, const uint8_t *walk, void *to), void *to) {
+    struct record record = map(asked->file);
+    uint8_t walk[SPINDLEWREN_WALK];
+    uint8_t refusal = spindlewren_begin(asked->limit, walk, sizeof walk);
+    if (refusal == SPINDLEWREN_ACCEPTED) puts(heading);
+    while (refusal == SPINDLEWREN_ACCEPTED) {
+        refusal = spindlewren_step(record.bytes, record.len, walk, sizeof walk);
+        if (refusal != SPINDLEWREN_ACCEPTED) break;
+        tell(record, walk, to);
+        if (walk[SPINDLEWREN_KIND] == SPINDLEWREN_IS_DONE) return;
+    }
+    refuse(asked->file, refusal);
+}
