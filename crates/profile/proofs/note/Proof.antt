@@ -1,0 +1,23 @@
+-- `profile::note` meets its contract.
+-- Assumes nothing.
+use Rattle.profile.proofs.Noting.{bare, out-of-order, in-order}
+use Rattle.octets.proofs.Deciding.{neither}
+use borrow.Author.Tests.{ltb-false}
+use native.Mathlib.Omega.{arith}
+use borrow.Author.Needs.{needs}
+use Rattle.profile.proofs.note.Statement.{statement}
+use Rattle.profile.proofs.note.Tie as tie
+
+returns : tie.Need-returns
+returns c = bare _ _ _ (search needs)
+
+returns-2 : tie.Need-returns-2
+returns-2 c = out-of-order _ _ _ (search needs)
+
+returns-3 : tie.Need-returns-3
+returns-3 c =
+    let o = neither _ _ (c .if2 .left) in
+    in-order _ _ _ (search needs) (ltb-false _ _ (o .0)) (ltb-false _ _ (o .1))
+
+pub note-spec : {M : Type 1} → statement M
+note-spec = tie.close (tie.spec returns returns-2 returns-3)
