@@ -2,23 +2,26 @@
 -- Assumes nothing.
 use mathlib.Core.Bool.{Bool, true, false, _&&_, _||_}
 use mathlib.Core.List.{List, [], _∷_, _++_}
-use mathlib.Core.Path.{_≡_, refl, sym, ap, _∙_, subst}
+use mathlib.Core.Path.{_≡_, refl, sym, ap, ap₂, _∙_, subst}
 use Prim.Native.Nat.{ℕ, _+_, _≤_, _<_}
 use native.Mathlib.Omega.{arith}
 use borrow.Author.Tests.{lt-ltb, le-ltb, le-leb, lt-leb, ltb-false, eqb-true, eqb-false}
 use lib.Dec.{eqb, ltb, leb}
 use lib.ListN.{length, getD, set}
 use lib.Seq.{getD-set-same, getD-set-other}
+use Rattle.frame.specs.declared.Stream.{Stream}
 use Rattle.frame.specs.Frame.{streamOf}
 use Rattle.frame.specs.Rules.{first}
 use Rattle.octets.proofs.Deciding.{or-false}
+use Rattle.capacity.specs.Sizes.{unitsBy}
 use Rattle.places.specs.declared.Place.{Place}
 use Rattle.places.specs.Places.{placeOf, placesTo, some, somePair, sameScid, unsized, beyond, meets, placeRules}
 use Rattle.places.proofs.Meaning.{clash}
 use Rattle.places.proofs.PlaceList.{places-more}
 use Rattle.profile.specs.declared.Notes.{Notes}
-use Rattle.profile.specs.ProfileClauses.{past, Noted, Adds}
-use Rattle.profile.proofs.Pairs.{some-snoc, pair-snoc, none-too, none-at-all}
+use Rattle.profile.specs.declared.Size.{Size}
+use Rattle.profile.specs.ProfileClauses.{past, Noted, Adds, IsSize}
+use Rattle.profile.proofs.Pairs.{both, some-snoc, pair-snoc, none-too, none-at-all}
 
 and-false : (a : Bool) → (a && false) ≡ false
 and-false true = refl
@@ -106,18 +109,18 @@ module _ (p : Place) (m : ℕ) (h : p .sad < p .end) (l : m ≤ p .sad) (q : Pla
 
 -- ---- the three ways of `note`
 module _ (notes : Notes) (p : Place) (again : Bool) where
-  pub bare : p .end ≤ p .sad → Adds notes p again (record { same = notes .same || again; sizeless = notes .sizeless || ltb 0 (p .stl); beyond = notes .beyond; crossed = notes .crossed; reach = notes .reach })
+  bare : p .end ≤ p .sad → Adds notes p again (record { same = notes .same || again; sizeless = notes .sizeless || ltb 0 (p .stl); beyond = notes .beyond; crossed = notes .crossed; reach = notes .reach })
   bare h ps d e =
       record {
         scids = pair-more ps p (notes .same) again (e .scids) d;
         sizes = more unsized ps p (notes .sizeless) (ltb 0 (p .stl)) (e .sizes) (bare-unsized p h);
         within = kept beyond ps p (notes .beyond) (e .within) (bare-beyond p h);
         apart = λ (c : notes .crossed ≡ false).
-          let a = e .apart c in
-          (apart-more ps p (a .0) (none-at-all (λ (q : Place). meets q p) (bare-meets p h) ps), past-more (notes .reach) ps p (a .1) (bare-past p h (notes .reach)));
+            let a = e .apart c in
+            (apart-more ps p (a .0) (none-at-all (λ (q : Place). meets q p) (bare-meets p h) ps), past-more (notes .reach) ps p (a .1) (bare-past p h (notes .reach)));
       }
 
-  pub out-of-order : p .sad < p .end → Adds notes p again (record { same = notes .same || again; sizeless = notes .sizeless; beyond = notes .beyond || ltb 864 (p .end); crossed = true; reach = notes .reach })
+  out-of-order : p .sad < p .end → Adds notes p again (record { same = notes .same || again; sizeless = notes .sizeless; beyond = notes .beyond || ltb 864 (p .end); crossed = true; reach = notes .reach })
   out-of-order h ps d e =
       record {
         scids = pair-more ps p (notes .same) again (e .scids) d;
@@ -126,24 +129,44 @@ module _ (notes : Notes) (p : Place) (again : Bool) where
         apart = λ (c : true ≡ false). clash c;
       }
 
-  pub in-order : p .sad < p .end → notes .reach ≤ p .sad → p .end ≤ 864 → Adds notes p again (record { same = notes .same || again; sizeless = notes .sizeless; beyond = notes .beyond; crossed = notes .crossed; reach = p .end })
+  in-order : p .sad < p .end → notes .reach ≤ p .sad → p .end ≤ 864 → Adds notes p again (record { same = notes .same || again; sizeless = notes .sizeless; beyond = notes .beyond; crossed = notes .crossed; reach = p .end })
   in-order h l k ps d e =
       record {
         scids = pair-more ps p (notes .same) again (e .scids) d;
         sizes = kept unsized ps p (notes .sizeless) (e .sizes) (held-unsized p h);
         within = kept beyond ps p (notes .beyond) (e .within) (held-beyond p h ∙ le-ltb 864 (p .end) k);
         apart = λ (c : notes .crossed ≡ false).
-          let a = e .apart c in
-          (apart-more ps p (a .0) (none-too (past (notes .reach)) (λ (q : Place). meets q p) (behind-meets p (notes .reach) h l) ps (a .1)), past-more (p .end) ps p (none-too (past (notes .reach)) (past (p .end)) (behind-past p (notes .reach) h l) ps (a .1)) (own-past p h));
+            let a = e .apart c in
+            (apart-more ps p (a .0) (none-too (past (notes .reach)) (λ (q : Place). meets q p) (behind-meets p (notes .reach) h l) ps (a .1)), past-more (p .end) ps p (none-too (past (notes .reach)) (past (p .end)) (behind-past p (notes .reach) h l) ps (a .1)) (own-past p h));
       }
+
+-- of a stream with k units
+module _ (notes : Notes) (s : Stream) (again : Bool) (k : ℕ) (e : k ≡ unitsBy (s .tpl) (s .stl)) where
+  pub no-units : k ≡ 0 → Adds notes (placeOf s) again (record { same = notes .same || again; sizeless = notes .sizeless || ltb 0 (s .stl); beyond = notes .beyond; crossed = notes .crossed; reach = notes .reach })
+  unfolding placeOf
+  no-units z = bare notes (placeOf s) again (omega (arith, e))
+
+  pub units-crossed : (k ≡ 0 → ⊥) → Adds notes (placeOf s) again (record { same = notes .same || again; sizeless = notes .sizeless; beyond = notes .beyond || ltb 864 (s .sad + k); crossed = true; reach = notes .reach })
+  unfolding placeOf
+  units-crossed z = rw e (out-of-order notes (placeOf s) again (omega (arith, e, z)))
+
+  pub units-on : (k ≡ 0 → ⊥) → notes .reach ≤ s .sad → s .sad + k ≤ 864 → Adds notes (placeOf s) again (record { same = notes .same || again; sizeless = notes .sizeless; beyond = notes .beyond; crossed = notes .crossed; reach = s .sad + k })
+  unfolding placeOf
+  units-on z l m = rw e (in-order notes (placeOf s) again (omega (arith, e, z)) l (omega (arith, e)))
+
+pub same-size : (known : Size) (tpl stl : ℕ) → IsSize (known .tpl) (known .stl) known → (eqb tpl (known .tpl) && eqb stl (known .stl)) ≡ true → IsSize tpl stl known
+same-size known tpl stl d e =
+    let x = both (eqb tpl (known .tpl)) (eqb stl (known .stl)) e in
+    let p : known .tpl ≡ tpl = sym (eqb-true tpl (known .tpl) (x .0)) in
+    let q : known .stl ≡ stl = sym (eqb-true stl (known .stl) (x .1)) in
+    record { tpl-of = p; stl-of = q; units-of = d .units-of ∙ ap₂ unitsBy p q; bounded = d .bounded }
+
+pub own-size : (r : Size) (tpl stl : ℕ) → IsSize tpl stl r → IsSize (r .tpl) (r .stl) r
+own-size r tpl stl d = record { tpl-of = refl; stl-of = refl; units-of = d .units-of ∙ sym (ap₂ unitsBy (d .tpl-of) (d .stl-of)); bounded = d .bounded }
 
 -- ---- SCIDs marked: one of 64 is marked where some stream has it
 abbrev pub Marked : List Bool → List Place → Type 0
 Marked met ps = (k : ℕ) → k < 64 → getD met k false ≡ some (λ (q : Place). eqb (q .scid) k) ps
-
-pub scid-lt : (f : List ℕ) (i : ℕ) → placeOf (streamOf f i) .scid < 64
-unfolding placeOf streamOf
-scid-lt f i = omega arith
 
 module _ (met : List Bool) (ps : List Place) (p : Place) (h : Marked met ps) (l : p .scid < 64) where
   pub met-again : getD met (p .scid) false ≡ some (λ (q : Place). sameScid q p) ps
@@ -160,18 +183,21 @@ module _ (met : List Bool) (ps : List Place) (p : Place) (h : Marked met ps) (l 
       go false d = rw (d, getD-set-other met (p .scid) k true false (λ (z : k ≡ p .scid). eqb-false (p .scid) k d (sym z)), h k m) (or-false (some (λ (q : Place). eqb (q .scid) k) ps))
 
 -- the streams of a frame, one more
-module _ (f : List ℕ) (i : ℕ) (met : List Bool) (p : Place) (e : p ≡ placeOf (streamOf f i)) where
-  one-more : placesTo f i ++ (p ∷ []) ≡ placesTo f (i + 1)
-  one-more = ap (λ (q : Place). placesTo f i ++ (q ∷ [])) e ∙ sym (places-more f i)
+module _ (f : List ℕ) (i : ℕ) (met : List Bool) (s : Stream) (e : s ≡ streamOf f i) where
+  one-more : placesTo f i ++ (placeOf s ∷ []) ≡ placesTo f (i + 1)
+  one-more = ap (λ (x : Stream). placesTo f i ++ (placeOf x ∷ [])) e ∙ sym (places-more f i)
 
-  pub scid-within : p .scid < 64
-  scid-within = subst (λ (q : Place). q .scid < 64) (sym e) (scid-lt f i)
+  pub scid-within : s .scid < 64
+  unfolding streamOf
+  scid-within = subst (λ (x : Stream). x .scid < 64) (sym e) (omega arith)
 
-  pub noted-on : (notes r : Notes) → Noted (placesTo f i) notes → Marked met (placesTo f i) → Adds notes p (getD met (p .scid) false) r → Noted (placesTo f (i + 1)) r
-  noted-on notes r d h a = subst (λ (ps : List Place). Noted ps r) one-more (a (placesTo f i) (met-again met (placesTo f i) p h scid-within) d)
+  pub noted-on : (notes r : Notes) → Noted (placesTo f i) notes → Marked met (placesTo f i) → Adds notes (placeOf s) (getD met (s .scid) false) r → Noted (placesTo f (i + 1)) r
+  unfolding placeOf
+  noted-on notes r d h a = subst (λ (ps : List Place). Noted ps r) one-more (a (placesTo f i) (met-again met (placesTo f i) (placeOf s) h scid-within) d)
 
-  pub marked-on : Marked met (placesTo f i) → length met ≡ 64 → Marked (set met (p .scid) true) (placesTo f (i + 1))
-  marked-on h l = subst (Marked (set met (p .scid) true)) one-more (marked-more met (placesTo f i) p h scid-within l)
+  pub marked-on : Marked met (placesTo f i) → length met ≡ 64 → Marked (set met (s .scid) true) (placesTo f (i + 1))
+  unfolding placeOf
+  marked-on h l = subst (Marked (set met (s .scid) true)) one-more (marked-more met (placesTo f i) (placeOf s) h scid-within l)
 
 -- ---- the number by the notes
 module _ (ps : List Place) (r : Notes) (d : Noted ps r) where

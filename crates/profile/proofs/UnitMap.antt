@@ -19,17 +19,13 @@ use Rattle.places.specs.Places.{placeOf, placesTo, some, somePair, beyond, meet
 use Rattle.places.proofs.Meaning.{clash}
 use Rattle.places.proofs.PlaceList.{places-more}
 use Rattle.profile.specs.ProfileClauses.{takes}
-use Rattle.profile.proofs.Pairs.{or-swap, some-snoc, pair-snoc, none-at-all}
+use Rattle.profile.proofs.Pairs.{both, or-swap, some-snoc, pair-snoc, none-at-all}
 
 -- ---- tests
 same-when : (a b : Bool) → (a ≡ true → b ≡ true) → (b ≡ true → a ≡ true) → a ≡ b
 same-when true b f g = sym (f refl)
 same-when false true f g = g refl
 same-when false false f g = refl
-
-both : (a b : Bool) → (a && b) ≡ true → (a ≡ true) × (b ≡ true)
-both true b e = (refl, e)
-both false b e = clash (sym e)
 
 either : (a b : Bool) → (a || b) ≡ true → (a ≡ true) ⊎ (b ≡ true)
 either true b e = inl refl
@@ -168,7 +164,7 @@ module _ (ps : List Place) (p : Place) (u : ℕ) where
       let fresh : (leb (p .sad) u && ltb u u) ≡ false = same-when _ false (λ d. let w = within-says (p .sad) u u d in absurd (omega (arith, w .1))) (λ d. clash (sym d)) in
       let m : getD map u false ≡ some (takes u) ps = h u k ∙ ap (λ (b : Bool). some (takes u) ps || b) fresh ∙ or-false (some (takes u) ps) in
       let w : some (λ (q : Place). meets q (cut p (u + 1))) ps ≡ (some (λ (q : Place). meets q (cut p u)) ps || some (takes u) ps) =
-        some-same _ _ (λ (q : Place). cut-more p q u s) ps ∙ some-or (λ (q : Place). meets q (cut p u)) (takes u) ps in
+      some-same _ _ (λ (q : Place). cut-more p q u s) ps ∙ some-or (λ (q : Place). meets q (cut p u)) (takes u) ps in
       rw (e, m, w) (or-assoc (somePair meets ps) (some (λ (q : Place). meets q (cut p u)) ps) (some (takes u) ps))
 
   -- all of them

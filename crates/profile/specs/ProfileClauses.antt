@@ -3,11 +3,13 @@
 use mathlib.Core.Bool.{Bool, true, false, _&&_, _||_}
 use mathlib.Core.List.{List, [], _∷_, _++_}
 use mathlib.Core.Path.{_≡_}
-use Prim.Native.Nat.{ℕ}
+use Prim.Native.Nat.{ℕ, _≤_}
 use lib.Dec.{eqb, ltb, leb}
 use Rattle.places.specs.declared.Place.{Place}
 use Rattle.places.specs.Places.{some, somePair, sameScid, unsized, beyond, meets}
+use Rattle.capacity.specs.Sizes.{unitsBy}
 use Rattle.profile.specs.declared.Notes.{Notes}
+use Rattle.profile.specs.declared.Size.{Size}
 
 -- the stream has units, and they do not end at m or before it
 unfoldable pub past : ℕ → Place → Bool
@@ -27,3 +29,10 @@ Adds notes p again r = (ps : List Place) → again ≡ some (λ (q : Place). sam
 -- unit u is one of the stream's
 unfoldable pub takes : ℕ → Place → Bool
 takes u p = leb (p .sad) u && ltb u (p .end)
+
+-- the units of a stream of this TPL and STL
+pub record IsSize (tpl stl : ℕ) (r : Size) : Type 0 where
+  pub tpl-of : r .tpl ≡ tpl
+  pub stl-of : r .stl ≡ stl
+  pub units-of : r .units ≡ unitsBy tpl stl
+  pub bounded : r .units ≤ 1769472

@@ -2,12 +2,12 @@
 // they do not is a map of the units made.
 ghost use mathlib.Core.Bool.{false};
 ghost use mathlib.Core.Path.{_≡_};
-ghost use lib.ListN.{length};
 ghost use Prim.Native.Nat.{_≤_};
 ghost use Rattle.frame.specs.Rules.{first};
-ghost use Rattle.places.specs.Places.{placesTo, some, somePair, beyond, meets, placeRules, profileOf};
-ghost use Rattle.profile.specs.ProfileClauses.{Adds, Noted};
-use places::Place;
+ghost use Rattle.capacity.specs.Sizes.{unitsBy};
+ghost use Rattle.places.specs.Places.{placeOf, placesTo, some, somePair, beyond, meets, placeRules, profileOf};
+ghost use Rattle.profile.specs.ProfileClauses.{Adds, Noted, IsSize};
+use frame::Stream;
 
 // What is noted of the streams so far: a SCID met twice, a stream without a size, one beyond the units, one out of order (it does not begin at or
 // behind the end of those before it); and where they end, as long as none is out of order.
@@ -19,25 +19,50 @@ pub struct Notes {
     pub reach: u32,
 }
 
-// One stream more; `again` says that its SCID was met before.
-fn note(notes: Notes, p: Place, again: bool) -> Notes
-    ensures { λ r. ⌜ Adds notes p again r ⌝ }
+// The units of a stream of this TPL and STL.
+pub struct Size {
+    pub tpl: u8,
+    pub stl: u16,
+    pub units: u32,
+}
+
+// The units of a stream; those of the stream before it are known, and most often they are the same.
+fn sized(known: Size, s: Stream) -> Size
+    requires { ⌜ IsSize (known .tpl) (known .stl) known ⌝ }
+    ensures { λ r. ⌜ IsSize (s .tpl) (s .stl) r ⌝ }
+{
+    if (s.tpl == known.tpl) & (s.stl == known.stl) {
+        return known;
+    }
+    Size {
+        tpl: s.tpl,
+        stl: s.stl,
+        units: capacity::units(s.tpl, s.stl),
+    }
+}
+
+// One stream more, of so many units; `again` says that its SCID was met before.
+fn note(notes: Notes, s: Stream, units: u32, again: bool) -> Notes
+    requires { ⌜ (units ≡ unitsBy (s .tpl) (s .stl)) × (units ≤ 1769472) ⌝ }
+    ensures { λ r. ⌜ Adds notes (placeOf s) again r ⌝ }
 {
     let same = notes.same | again;
-    if p.end <= p.sad {
+    if units == 0 {
         return Notes {
             same,
-            sizeless: notes.sizeless | (0 < p.stl),
+            sizeless: notes.sizeless | (0 < s.stl),
             beyond: notes.beyond,
             crossed: notes.crossed,
             reach: notes.reach,
         };
     }
-    if (p.sad < notes.reach) | (864 < p.end) {
+    let sad = s.sad as u32;
+    let end = sad + units;
+    if (sad < notes.reach) | (864 < end) {
         return Notes {
             same,
             sizeless: notes.sizeless,
-            beyond: notes.beyond | (864 < p.end),
+            beyond: notes.beyond | (864 < end),
             crossed: true,
             reach: notes.reach,
         };
@@ -47,7 +72,7 @@ fn note(notes: Notes, p: Place, again: bool) -> Notes
         sizeless: notes.sizeless,
         beyond: notes.beyond,
         crossed: notes.crossed,
-        reach: p.end,
+        reach: end,
     }
 }
 
@@ -62,11 +87,17 @@ fn look_over(frame: &[u8], n: usize) -> Notes
         crossed: false,
         reach: 0,
     };
+    let mut known = Size {
+        tpl: 0,
+        stl: 0,
+        units: 0,
+    };
     let mut i = 0;
     while i < n {
-        let p = places::placed(frame, i);
-        let k = p.scid as usize;
-        notes = note(notes, p, met[k]);
+        let s = fields::entry(frame, i);
+        let k = s.scid as usize;
+        known = sized(known, s);
+        notes = note(notes, s, known.units, met[k]);
         met[k] = true;
         i += 1;
     }

@@ -1,6 +1,6 @@
 -- `profile::note` meets its contract.
 -- Assumes nothing.
-use Rattle.profile.proofs.Noting.{bare, out-of-order, in-order}
+use Rattle.profile.proofs.Noting.{no-units, units-crossed, units-on}
 use Rattle.octets.proofs.Deciding.{neither}
 use borrow.Author.Tests.{ltb-false}
 use native.Mathlib.Omega.{arith}
@@ -9,15 +9,15 @@ use Rattle.profile.proofs.note.Statement.{statement}
 use Rattle.profile.proofs.note.Tie as tie
 
 returns : tie.Need-returns
-returns c = bare _ _ _ (search needs)
+returns c = no-units _ _ _ (c .before .before .before .before .args .units) (search needs) (search needs)
 
 returns-2 : tie.Need-returns-2
-returns-2 c = out-of-order _ _ _ (search needs)
+returns-2 c = units-crossed _ _ _ _ (search needs) (search needs)
 
 returns-3 : tie.Need-returns-3
 returns-3 c =
     let o = neither _ _ (c .if2 .left) in
-    in-order _ _ _ (search needs) (ltb-false _ _ (o .0)) (ltb-false _ _ (o .1))
+    units-on _ _ _ _ (search needs) (search needs) (ltb-false _ _ (o .0)) (ltb-false _ _ (o .1))
 
 pub note-spec : {M : Type 1} → statement M
-note-spec = tie.close (tie.spec returns returns-2 returns-3)
+note-spec = tie.close (tie.spec returns (λ c. search needs) (λ c. search needs) returns-2 returns-3)
