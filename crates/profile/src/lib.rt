@@ -11,19 +11,19 @@ use frame::Stream;
 
 // What is noted of the streams so far: a SCID met twice, a stream without a size, one beyond the units, one out of order (it does not begin at or
 // behind the end of those before it); and where they end, as long as none is out of order.
-pub struct Notes {
-    pub same: bool,
-    pub sizeless: bool,
-    pub beyond: bool,
-    pub crossed: bool,
-    pub reach: u32,
+struct Notes {
+    same: bool,
+    sizeless: bool,
+    beyond: bool,
+    crossed: bool,
+    reach: u32,
 }
 
 // The units of a stream of this TPL and STL.
-pub struct Size {
-    pub tpl: u8,
-    pub stl: u16,
-    pub units: u32,
+struct Size {
+    tpl: u8,
+    stl: u16,
+    units: u32,
 }
 
 // The units of a stream; those of the stream before it are known, and most often they are the same.
