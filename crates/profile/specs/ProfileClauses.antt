@@ -1,10 +1,10 @@
 -- What the private functions of the profile say. Nothing here need be believed.
 -- Assumes nothing.
-use mathlib.Core.Bool.{Bool, true, false, _&&_, _||_}
+use mathlib.Core.Bool.{Bool, false, _&&_}
 use mathlib.Core.List.{List, [], _∷_, _++_}
 use mathlib.Core.Path.{_≡_}
 use Prim.Native.Nat.{ℕ, _≤_}
-use lib.Dec.{eqb, ltb, leb}
+use lib.Dec.{ltb, leb}
 use Rattle.places.specs.declared.Place.{Place}
 use Rattle.places.specs.Places.{some, somePair, sameScid, unsized, beyond, meets}
 use Rattle.capacity.specs.Sizes.{unitsBy}

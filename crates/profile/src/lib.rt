@@ -76,6 +76,7 @@ fn note(notes: Notes, s: Stream, units: u32, again: bool) -> Notes
     }
 }
 
+// The notes of the first n streams.
 fn look_over(frame: &[u8], n: usize) -> Notes
     ensures { λ r. ⌜ Noted (placesTo (now (frame .entry)) n) r ⌝ }
 {

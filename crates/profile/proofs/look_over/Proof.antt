@@ -9,8 +9,7 @@ use lib.ListN.{length, length-set, getD-replicate}
 use mathlib.Core.Bool.{true, false}
 use mathlib.Core.List.{[]}
 use Prim.Native.Nat.{_≤_, _-_}
-use mathlib.Core.Path.{_≡_, refl, sym, _∙_}
-use native.Mathlib.Omega.{arith}
+use mathlib.Core.Path.{_≡_, refl, _∙_}
 use borrow.Author.Needs.{needs}
 use Rattle.profile.proofs.look_over.Statement.{statement}
 use Rattle.profile.proofs.look_over.Tie as tie

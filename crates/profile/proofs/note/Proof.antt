@@ -3,7 +3,6 @@
 use Rattle.profile.proofs.Noting.{no-units, units-crossed, units-on}
 use Rattle.octets.proofs.Deciding.{neither}
 use borrow.Author.Tests.{ltb-false}
-use native.Mathlib.Omega.{arith}
 use borrow.Author.Needs.{needs}
 use Rattle.profile.proofs.note.Statement.{statement}
 use Rattle.profile.proofs.note.Tie as tie

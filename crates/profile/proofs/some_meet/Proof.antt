@@ -1,8 +1,8 @@
 -- `profile::some_meet` meets its contract.
 -- Assumes nothing.
 use mathlib.Core.Bool.{true, false}
-use mathlib.Core.Path.{_≡_, refl, sym, ap, _∙_}
-use Prim.Native.Nat.{ℕ, _≤_, _<_, _-_}
+use mathlib.Core.Path.{_≡_, refl, ap, _∙_}
+use Prim.Native.Nat.{ℕ, _≤_, _-_}
 use native.Mathlib.Nat.{le-antisymm}
 use native.Mathlib.Omega.{arith}
 use lib.ListN.{length, length-set, getD-replicate}
@@ -10,7 +10,6 @@ use borrow.Author.Needs.{needs}
 use Rattle.frame.specs.Frame.{streamOf}
 use Rattle.places.specs.declared.Place.{Place}
 use Rattle.places.specs.Places.{placeOf, placesTo, some, somePair, meets}
-use Rattle.places.proofs.PlaceList.{places-more}
 use Rattle.profile.proofs.UnitMap.{Mapped, MappedTo, MetTo, map-begins, met-begins, map-more, met-more, map-on, met-on, on-map}
 use Rattle.profile.proofs.some_meet.Statement.{statement}
 use Rattle.profile.proofs.some_meet.Tie as tie
