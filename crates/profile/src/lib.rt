@@ -1,126 +1,155 @@
-// The final-stage profile of a frame: its number. Pairs of streams are compared over a table of their places, made once.
-ghost use mathlib.Core.List.{[], _∷_};
+// The final-stage profile of a frame: its number. One run over the streams finds the number of a table whose sub-channels lie in order; only where
+// they do not is a map of the units made.
+ghost use mathlib.Core.Bool.{false};
 ghost use mathlib.Core.Path.{_≡_};
 ghost use Prim.Native.Nat.{_≤_};
-ghost use lib.ListN.{take};
-ghost use Rattle.frame.specs.Rules.{first, _when_};
-ghost use Rattle.places.specs.Places.{placesTo, some, somePair, sameScid, unsized, beyond, meets, placeRules, profileOf};
-ghost use Rattle.profile.specs.ProfileClauses.{tabled};
-use places::Place;
+ghost use Rattle.frame.specs.Rules.{first};
+ghost use Rattle.capacity.specs.Sizes.{unitsBy};
+ghost use Rattle.places.specs.Places.{placeOf, placesTo, some, somePair, beyond, meets, placeRules, profileOf};
+ghost use Rattle.profile.specs.ProfileClauses.{Adds, Noted, IsSize};
+use frame::Stream;
 
-// The places of the first n streams.
-fn table(frame: &[u8], n: usize) -> [Place; 64]
-    requires { ⌜ n ≤ 64 ⌝ }
-    ensures { λ r. ⌜ r ≡ tabled (placesTo (now (frame .entry)) n) ⌝ }
+// What is noted of the streams so far: a SCID met twice, a stream without a size, one beyond the units, one out of order (it does not begin at or
+// behind the end of those before it); and where they end, as long as none is out of order.
+struct Notes {
+    same: bool,
+    sizeless: bool,
+    beyond: bool,
+    crossed: bool,
+    reach: u32,
+}
+
+// The units of a stream of this TPL and STL.
+struct Size {
+    tpl: u8,
+    stl: u16,
+    units: u32,
+}
+
+// The units of a stream; those of the stream before it are known, and most often they are the same.
+fn sized(known: Size, s: Stream) -> Size
+    requires { ⌜ IsSize (known .tpl) (known .stl) known ⌝ }
+    ensures { λ r. ⌜ IsSize (s .tpl) (s .stl) r ⌝ }
 {
-    let mut table = [Place {
-        scid: 0,
-        sad: 0,
-        end: 0,
+    if (s.tpl == known.tpl) & (s.stl == known.stl) {
+        return known;
+    }
+    Size {
+        tpl: s.tpl,
+        stl: s.stl,
+        units: capacity::units(s.tpl, s.stl),
+    }
+}
+
+// One stream more, of so many units; `again` says that its SCID was met before.
+fn note(notes: Notes, s: Stream, units: u32, again: bool) -> Notes
+    requires { ⌜ (units ≡ unitsBy (s .tpl) (s .stl)) × (units ≤ 1769472) ⌝ }
+    ensures { λ r. ⌜ Adds notes (placeOf s) again r ⌝ }
+{
+    let same = notes.same | again;
+    if units == 0 {
+        return Notes {
+            same,
+            sizeless: notes.sizeless | (0 < s.stl),
+            beyond: notes.beyond,
+            crossed: notes.crossed,
+            reach: notes.reach,
+        };
+    }
+    let sad = s.sad as u32;
+    let end = sad + units;
+    if (sad < notes.reach) | (864 < end) {
+        return Notes {
+            same,
+            sizeless: notes.sizeless,
+            beyond: notes.beyond | (864 < end),
+            crossed: true,
+            reach: notes.reach,
+        };
+    }
+    Notes {
+        same,
+        sizeless: notes.sizeless,
+        beyond: notes.beyond,
+        crossed: notes.crossed,
+        reach: end,
+    }
+}
+
+// The notes of the first n streams.
+fn look_over(frame: &[u8], n: usize) -> Notes
+    ensures { λ r. ⌜ Noted (placesTo (now (frame .entry)) n) r ⌝ }
+{
+    let mut met = [false; 64];
+    let mut notes = Notes {
+        same: false,
+        sizeless: false,
+        beyond: false,
+        crossed: false,
+        reach: 0,
+    };
+    let mut known = Size {
+        tpl: 0,
         stl: 0,
-    }; 64];
+        units: 0,
+    };
     let mut i = 0;
     while i < n {
-        table[i] = places::placed(frame, i);
+        let s = fields::entry(frame, i);
+        let k = s.scid as usize;
+        known = sized(known, s);
+        notes = note(notes, s, known.units, met[k]);
+        met[k] = true;
         i += 1;
     }
-    table
+    notes
 }
 
-// Over the first n streams: two of one SCID, one without a size, one beyond the units, two that share a unit.
-fn some_same(table: [Place; 64], n: usize) -> bool
-    requires { ⌜ n ≤ 64 ⌝ }
-    ensures { λ r. ⌜ r ≡ somePair sameScid (take n table) ⌝ }
+// Whether two streams have a unit together, by a map of the units; none lies beyond it.
+fn some_meet(frame: &[u8], n: usize) -> bool
+    requires { ⌜ some beyond (placesTo (now frame) n) ≡ false ⌝ }
+    ensures { λ r. ⌜ r ≡ somePair meets (placesTo (now (frame .entry)) n) ⌝ }
 {
+    let mut map = [false; 864];
     let mut found = false;
     let mut i = 0;
     while i < n {
-        let mine = table[i];
-        let mut j = 0;
-        while j < i {
-            found = found | places::same(table[j], mine);
-            j += 1;
+        let p = places::placed(frame, i);
+        let end = p.end as usize;
+        let mut u = p.sad as usize;
+        while u < end {
+            found = found | map[u];
+            map[u] = true;
+            u += 1;
         }
         i += 1;
     }
     found
 }
 
-fn some_unsized(table: [Place; 64], n: usize) -> bool
-    requires { ⌜ n ≤ 64 ⌝ }
-    ensures { λ r. ⌜ r ≡ some unsized (take n table) ⌝ }
+// The number of the first n streams.
+fn number(frame: &[u8], n: usize) -> u8
+    ensures { λ r. ⌜ r ≡ first (placeRules (placesTo (now (frame .entry)) n)) ⌝ }
 {
-    let mut found = false;
-    let mut i = 0;
-    while i < n {
-        found = found | places::is_unsized(table[i]);
-        i += 1;
-    }
-    found
-}
-
-fn some_beyond(table: [Place; 64], n: usize) -> bool
-    requires { ⌜ n ≤ 64 ⌝ }
-    ensures { λ r. ⌜ r ≡ some beyond (take n table) ⌝ }
-{
-    let mut found = false;
-    let mut i = 0;
-    while i < n {
-        found = found | places::is_beyond(table[i]);
-        i += 1;
-    }
-    found
-}
-
-fn some_meet(table: [Place; 64], n: usize) -> bool
-    requires { ⌜ n ≤ 64 ⌝ }
-    ensures { λ r. ⌜ r ≡ somePair meets (take n table) ⌝ }
-{
-    let mut found = false;
-    let mut i = 0;
-    while i < n {
-        let mine = table[i];
-        let mut j = 0;
-        while j < i {
-            found = found | places::meet(table[j], mine);
-            j += 1;
-        }
-        i += 1;
-    }
-    found
-}
-
-fn number(same: bool, sizeless: bool, beyond: bool, meet: bool) -> u8
-    ensures { λ r. ⌜ r ≡ first ((30 when same) ∷ (31 when sizeless) ∷ (32 when beyond) ∷ (33 when meet) ∷ []) ⌝ }
-{
-    if same {
+    let notes = look_over(frame, n);
+    if notes.same {
         return 30;
     }
-    if sizeless {
+    if notes.sizeless {
         return 31;
     }
-    if beyond {
+    if notes.beyond {
         return 32;
     }
-    if meet {
-        return 33;
+    if notes.crossed {
+        if some_meet(frame, n) {
+            return 33;
+        }
     }
     0
 }
 
-fn places_number(table: [Place; 64], n: usize) -> u8
-    requires { ⌜ n ≤ 64 ⌝ }
-    ensures { λ r. ⌜ r ≡ first (placeRules (take n table)) ⌝ }
-{
-    number(
-        some_same(table, n),
-        some_unsized(table, n),
-        some_beyond(table, n),
-        some_meet(table, n),
-    )
-}
-
-// The number of the bytes lent: reading's refusal, then 30 to 33; 0 is yes.
+// The number of the bytes lent: reading's refusal, then 30 to 33; 0 is yes. The part of 6,144 bytes is all of them: its length is known as it is built.
 pub fn judge(frame: &[u8]) -> u8
     ensures { λ r. ⌜ r ≡ profileOf (now (frame .entry)) ⌝ }
 {
@@ -129,6 +158,5 @@ pub fn judge(frame: &[u8]) -> u8
         return refusal;
     }
     let fc = fields::fc(frame);
-    let n = fc.nst as usize;
-    places_number(table(frame, n), n)
+    number(&frame[..6144], fc.nst as usize)
 }
