@@ -107,10 +107,15 @@ module _ (p : Place) (m : ℕ) (h : p .sad < p .end) (l : m ≤ p .sad) (q : Pla
           let k : q .end ≤ p .end = omega (arith, ltb-false m (q .end) z) in
           rw (le-ltb (p .end) (q .end) k) (and-false (ltb (q .sad) (q .end)))
 
--- ---- the three ways of `note`
-module _ (notes : Notes) (p : Place) (again : Bool) where
-  bare : p .end ≤ p .sad → Adds notes p again (record { same = notes .same || again; sizeless = notes .sizeless || ltb 0 (p .stl); beyond = notes .beyond; crossed = notes .crossed; reach = notes .reach })
-  bare h ps d e =
+-- ---- the three ways of `note`; m is where the stream ends
+pub ends : (s : Stream) (k : ℕ) → k ≡ unitsBy (s .tpl) (s .stl) → s .sad + k ≡ placeOf s .end
+unfolding placeOf
+ends s k e = ap (λ (x : ℕ). s .sad + x) e
+
+module _ (notes : Notes) (p : Place) (again : Bool) (m : ℕ) (o : m ≡ p .end) where
+  pub bare : m ≤ p .sad → Adds notes p again (record { same = notes .same || again; sizeless = notes .sizeless || ltb 0 (p .stl); beyond = notes .beyond; crossed = notes .crossed; reach = notes .reach })
+  bare l ps d e =
+      let h : p .end ≤ p .sad = omega arith in
       record {
         scids = pair-more ps p (notes .same) again (e .scids) d;
         sizes = more unsized ps p (notes .sizeless) (ltb 0 (p .stl)) (e .sizes) (bare-unsized p h);
@@ -120,39 +125,27 @@ module _ (notes : Notes) (p : Place) (again : Bool) where
             (apart-more ps p (a .0) (none-at-all (λ (q : Place). meets q p) (bare-meets p h) ps), past-more (notes .reach) ps p (a .1) (bare-past p h (notes .reach)));
       }
 
-  out-of-order : p .sad < p .end → Adds notes p again (record { same = notes .same || again; sizeless = notes .sizeless; beyond = notes .beyond || ltb 864 (p .end); crossed = true; reach = notes .reach })
-  out-of-order h ps d e =
+  pub out-of-order : p .sad < m → Adds notes p again (record { same = notes .same || again; sizeless = notes .sizeless; beyond = notes .beyond || ltb 864 m; crossed = true; reach = notes .reach })
+  out-of-order l ps d e =
+      let h : p .sad < p .end = omega arith in
       record {
         scids = pair-more ps p (notes .same) again (e .scids) d;
         sizes = kept unsized ps p (notes .sizeless) (e .sizes) (held-unsized p h);
-        within = more beyond ps p (notes .beyond) (ltb 864 (p .end)) (e .within) (held-beyond p h);
+        within = more beyond ps p (notes .beyond) (ltb 864 m) (e .within) (held-beyond p h ∙ ap (ltb 864) (sym o));
         apart = λ (c : true ≡ false). clash c;
       }
 
-  in-order : p .sad < p .end → notes .reach ≤ p .sad → p .end ≤ 864 → Adds notes p again (record { same = notes .same || again; sizeless = notes .sizeless; beyond = notes .beyond; crossed = notes .crossed; reach = p .end })
-  in-order h l k ps d e =
+  pub in-order : p .sad < m → notes .reach ≤ p .sad → m ≤ 864 → Adds notes p again (record { same = notes .same || again; sizeless = notes .sizeless; beyond = notes .beyond; crossed = notes .crossed; reach = m })
+  in-order l r k ps d e =
+      let h : p .sad < p .end = omega arith in
       record {
         scids = pair-more ps p (notes .same) again (e .scids) d;
         sizes = kept unsized ps p (notes .sizeless) (e .sizes) (held-unsized p h);
-        within = kept beyond ps p (notes .beyond) (e .within) (held-beyond p h ∙ le-ltb 864 (p .end) k);
+        within = kept beyond ps p (notes .beyond) (e .within) (held-beyond p h ∙ le-ltb 864 (p .end) (omega arith));
         apart = λ (c : notes .crossed ≡ false).
             let a = e .apart c in
-            (apart-more ps p (a .0) (none-too (past (notes .reach)) (λ (q : Place). meets q p) (behind-meets p (notes .reach) h l) ps (a .1)), past-more (p .end) ps p (none-too (past (notes .reach)) (past (p .end)) (behind-past p (notes .reach) h l) ps (a .1)) (own-past p h));
+            (apart-more ps p (a .0) (none-too (past (notes .reach)) (λ (q : Place). meets q p) (behind-meets p (notes .reach) h r) ps (a .1)), subst (λ (x : ℕ). some (past x) (ps ++ (p ∷ [])) ≡ false) (sym o) (past-more (p .end) ps p (none-too (past (notes .reach)) (past (p .end)) (behind-past p (notes .reach) h r) ps (a .1)) (own-past p h)));
       }
-
--- of a stream with k units
-module _ (notes : Notes) (s : Stream) (again : Bool) (k : ℕ) (e : k ≡ unitsBy (s .tpl) (s .stl)) where
-  pub no-units : k ≡ 0 → Adds notes (placeOf s) again (record { same = notes .same || again; sizeless = notes .sizeless || ltb 0 (s .stl); beyond = notes .beyond; crossed = notes .crossed; reach = notes .reach })
-  unfolding placeOf
-  no-units z = bare notes (placeOf s) again (omega (arith, e))
-
-  pub units-crossed : (k ≡ 0 → ⊥) → Adds notes (placeOf s) again (record { same = notes .same || again; sizeless = notes .sizeless; beyond = notes .beyond || ltb 864 (s .sad + k); crossed = true; reach = notes .reach })
-  unfolding placeOf
-  units-crossed z = rw e (out-of-order notes (placeOf s) again (omega (arith, e, z)))
-
-  pub units-on : (k ≡ 0 → ⊥) → notes .reach ≤ s .sad → s .sad + k ≤ 864 → Adds notes (placeOf s) again (record { same = notes .same || again; sizeless = notes .sizeless; beyond = notes .beyond; crossed = notes .crossed; reach = s .sad + k })
-  unfolding placeOf
-  units-on z l m = rw e (in-order notes (placeOf s) again (omega (arith, e, z)) l (omega (arith, e)))
 
 pub same-size : (known : Size) (tpl stl : ℕ) → IsSize (known .tpl) (known .stl) known → (eqb tpl (known .tpl) && eqb stl (known .stl)) ≡ true → IsSize tpl stl known
 same-size known tpl stl d e =
