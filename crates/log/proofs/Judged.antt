@@ -1,6 +1,6 @@
 -- Judging a log, reading a record, writing an entry: every outcome.
 -- Assumes nothing.
-use mathlib.Core.Bool.{Bool, true, false}
+use mathlib.Core.Bool.{Bool, true, false, not}
 use mathlib.Core.List.{List, [], _∷_}
 use mathlib.Core.Path.{_≡_, refl, _∙_}
 use Prim.Native.Nat.{ℕ, zero, suc, _+_, _-_, _*_, _/_, _%_, _≤_, _<_}
@@ -81,6 +81,30 @@ module _ (l : List ℕ) where
         find-good x h p =
             let q = lt-leb (length l / 16) i within in
             record { number = rw (eq-eqb (length l % 16) 0 even, q, ← e, h); entry = rw (eq-eqb (length l % 16) 0 even, q, ← e, h) p }
+
+-- what a caller learns of a record that is there
+module _ (l : List ℕ) (i n : ℕ) (x : Entry) (f : Finds l i n x) (even : length l % 16 ≡ 0) (within : i < length l / 16) where
+  by-good : entryRefusalOf l i ≡ pick (goodFrom l (16 * i)) 0 29
+  unfolding entryRefusalOf
+  by-good = rw (eq-eqb (length l % 16) 0 even, lt-leb (length l / 16) i within) (go (goodFrom l (16 * i)))
+    where
+      go : (b : Bool) → _≡_ {A = ℕ} (pick (not b) 29 0) (pick b 0 29)
+      go true = refl
+      go false = refl
+
+  pub found-good : n ≡ 0 → (goodFrom l (16 * i) ≡ true) × (x ≡ entryFrom l (16 * i))
+  found-good z = go (goodFrom l (16 * i)) refl
+    where
+      go : (b : Bool) → goodFrom l (16 * i) ≡ b → (goodFrom l (16 * i) ≡ true) × (x ≡ entryFrom l (16 * i))
+      go true e = (e, f .entry ∙ (rw (by-good, e)))
+      go false e = let q : n ≡ 29 = f .number ∙ by-good ∙ (rw e) in absurd (omega arith)
+
+  pub found-bad : (n ≡ 0 → ⊥) → (goodFrom l (16 * i) ≡ false) × (n ≡ 29)
+  found-bad z = go (goodFrom l (16 * i)) refl
+    where
+      go : (b : Bool) → goodFrom l (16 * i) ≡ b → (goodFrom l (16 * i) ≡ false) × (n ≡ 29)
+      go true e = absurd (z (f .number ∙ by-good ∙ (rw e)))
+      go false e = (e, f .number ∙ by-good ∙ (rw e))
 
 -- ---- writing
 module _ (e : Entry) (before after : List ℕ) where

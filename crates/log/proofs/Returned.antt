@@ -5,7 +5,7 @@ use mathlib.Core.Path.{_≡_, refl, sym, ap, ap₂, _∙_}
 use Prim.Native.Nat.{ℕ, zero, suc, _+_, _*_, _≤_, _<_, _^_}
 use native.Mathlib.Numerals.{add-one}
 use native.Mathlib.Omega.{arith}
-use lib.ListN.{length, getD, take, drop}
+use lib.ListN.{length, getD, take, drop, length-append}
 use lib.Seq.{drop-cons, take-add, getD-append-add}
 use Rattle.octets.specs.Stores.{bytesOfEach}
 use Rattle.octets.specs.Words.{split, bytes8, eightAt}
@@ -60,6 +60,15 @@ module _ (l : List ℕ) (bytes : Bytes l) (at : ℕ) where
       ∙ sym (cut16 l at h ∙ (rw (a, b, c, d, e)))
 
 -- ---- a log
+pub entries-more : (l : List ℕ) (n : ℕ) → entriesTo l (n + 1) ≡ entriesTo l n ++ (entryFrom l (16 * n) ∷ [])
+unfolding entriesTo
+entries-more l n = ap (entriesTo l) (add-one n)
+
+pub entries-length : (l : List ℕ) (n : ℕ) → length (entriesTo l n) ≡ n
+unfolding entriesTo
+entries-length l zero = refl
+entries-length l (suc n) = rw (length-append, entries-length l n) (add-one n)
+
 log-snoc : (es : List Entry) (e : Entry) → logOf (es ++ (e ∷ [])) ≡ logOf es ++ recordOf e
 log-snoc es e = each-append recordOf es (e ∷ []) ∙ ap (λ (x : List ℕ). logOf es ++ x) (append-nil (recordOf e))
 
