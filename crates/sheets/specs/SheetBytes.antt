@@ -1,0 +1,39 @@
+-- Logs and sheets at the C boundary, as docs/BOUNDARY.md lays them out: fields one after another, high byte first.
+-- Assumes nothing.
+use mathlib.Core.List.{List, [], _∷_, _++_}
+use Prim.Native.Nat.{ℕ, zero, suc, _*_}
+use lib.Dec.{eqb}
+use lib.ListN.{getD}
+use Rattle.octets.specs.Choice.{pick}
+use Rattle.octets.specs.Stores.{bytesOfEach}
+use Rattle.octets.specs.Words.{split, bytes8, eightAt}
+use Rattle.log.specs.declared.Entry.{Entry}
+use Rattle.log.specs.Log.{entriesOf, firstBad, logRefusalOf}
+use Rattle.sheet.specs.declared.Sheet.{Sheet}
+use Rattle.sheet.specs.Sheets.{added}
+
+-- a log judged, nine bytes: its number, and the bad record for 29
+unfoldable pub judgedBytes : List ℕ → List ℕ
+judgedBytes l = logRefusalOf l ∷ split bytes8 (pick (eqb (logRefusalOf l) 29) (firstBad l) 0)
+
+-- an entry, eleven bytes: place, kind, code, level
+unfoldable pub entryBytes : Entry → List ℕ
+entryBytes e = split bytes8 (e .place) ++ (e .kind ∷ e .code ∷ e .level ∷ [])
+
+-- a sheet, 146 bytes: the sixteen totals, high, low, whether a frame was met, and the last one's FCT
+unfoldable pub sheetBytes : Sheet → List ℕ
+sheetBytes s = bytesOfEach (split bytes8) (s .totals) ++ split bytes8 (s .run .high) ++ split bytes8 (s .run .low) ++ (s .run .met ∷ s .run .fct ∷ [])
+
+-- ---- read back
+-- the first n totals
+unfoldable pub totalsIn : List ℕ → ℕ → List ℕ
+totalsIn b zero = []
+totalsIn b (suc n) = totalsIn b n ++ (eightAt b (8 * n) ∷ [])
+
+unfoldable pub sheetIn : List ℕ → Sheet
+sheetIn b =
+    record { totals = totalsIn b 16; run = record { high = eightAt b 128; low = eightAt b 136; met = getD b 144 0; fct = getD b 145 0 } }
+
+-- a log's entries added to the sheet in these bytes
+unfoldable pub addedBytes : List ℕ → List ℕ → List ℕ
+addedBytes l b = sheetBytes (added (sheetIn b) (entriesOf l))
