@@ -7,7 +7,6 @@ use native.Mathlib.Numerals.{add-one}
 use native.Mathlib.Omega.{arith}
 use lib.ListN.{length, getD, take, drop, length-append}
 use lib.Seq.{drop-cons, take-add, getD-append-add}
-use Rattle.octets.specs.Stores.{bytesOfEach}
 use Rattle.octets.specs.Words.{split, bytes8, eightAt}
 use Rattle.octets.proofs.SplitJoin.{join-split, split-join}
 use Rattle.octets.proofs.Storing.{each-append}

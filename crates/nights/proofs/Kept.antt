@@ -1,15 +1,15 @@
 -- A NIGHT'S LOG IS NEVER REFUSED: every item that a step of a walk hands out is allowed in a record, but done, which never is.
 -- Assumes nothing.
-use mathlib.Core.Bool.{Bool, true, false, not, _&&_}
+use mathlib.Core.Bool.{Bool, true, false, _&&_}
 use mathlib.Core.List.{List, [], _∷_}
-use mathlib.Core.Path.{_≡_, refl, sym, ap, _∙_}
-use Prim.Native.Nat.{ℕ, _+_, _≤_, _<_}
+use mathlib.Core.Path.{_≡_, refl, _∙_}
+use Prim.Native.Nat.{ℕ, _+_, _≤_}
 use native.Mathlib.Omega.{arith}
 use borrow.Author.Tests.{eq-eqb, ne-eqb, le-leb, leb-true}
 use lib.Dec.{eqb, leb}
-use lib.ListN.{length, take, drop, length-drop}
+use lib.ListN.{length, drop, length-drop}
 use lib.Seq.{length-take-le}
-use Rattle.octets.specs.Choice.{pick, placeIn}
+use Rattle.octets.specs.Choice.{placeIn}
 use Rattle.sum.specs.Sum.{sumOf}
 use Rattle.frame.specs.declared.Header.{Header}
 use Rattle.frame.specs.Frame.{statuses, errOf, fctOf, levelOf, mainOf, mainSumOf}

@@ -11,7 +11,7 @@ use lib.ListN.{length}
 use Rattle.octets.specs.Choice.{pick}
 use Rattle.log.specs.declared.Entry.{Entry}
 use Rattle.sheet.specs.declared.Run.{Run}
-use Rattle.sheet.specs.Sheets.{fctsOf, isFrame, gap, gapsAfter, gaps, missing, billion, followed, missingWith, metAfter, lastAfter, runBy, runAdded, seam}
+use Rattle.sheet.specs.Sheets.{fctsOf, isFrame, gap, gapsAfter, gaps, missing, billion, missingWith, metAfter, lastAfter, runBy, runAdded, seam}
 
 -- THE DIFFERENCE LESS ONE, MODULO 250: so many frames on behind a, and one more, comes b; and it is less than 250
 pub gap-right : (a b : ℕ) → a < 250 → b < 250 → ((a + gap a b + 1) % 250 ≡ b) × (gap a b < 250)

@@ -6,16 +6,17 @@ use mathlib.Core.Path.{_≡_, refl, sym, ap, _∙_}
 use Prim.Native.Nat.{ℕ, zero, suc, _+_, _-_, _*_, _/_, _%_, _≤_, _<_}
 use native.Mathlib.Omega.{arith}
 use borrow.Author.Tests.{eqb-true, le-leb, lt-ltb}
-use lib.Dec.{eqb, ltb, leb}
-use lib.ListN.{length, getD, getD-replicate, replicate}
+use lib.Dec.{eqb, leb}
+use lib.ListN.{length, getD, replicate}
 use Rattle.octets.specs.Choice.{pick}
 use Rattle.log.specs.declared.Entry.{Entry}
-use Rattle.log.specs.Log.{allowed, allowedEntry}
+use Rattle.log.specs.Log.{allowed}
 use Rattle.log.proofs.Accepted.{AllAllowed}
-use Rattle.sheet.specs.declared.Run.{Run}
-use Rattle.sheet.specs.Sheets.{count, fctsOf, isFrame, missing, billion, gaps, metAfter, lastAfter, runBy, added, nothing, sheetOf, allAtMost, runGoesOn, goesOn, inRow, totalsTo}
-use Rattle.sheet.proofs.Gaps.{missing-le}
+use Rattle.sheet.specs.declared.Sheet.{Sheet}
+use Rattle.sheet.specs.Sheets.{fctsOf, isFrame, missing, billion, gaps, metAfter, lastAfter, runBy, added, sheetOf, allAtMost, runGoesOn, goesOn, totalsTo}
+use Rattle.sheet.proofs.Gaps.{missing-le, run-room}
 use Rattle.sheet.proofs.RowsMean.{frame-parts}
+use Rattle.sheet.proofs.Summing.{totals-fit, run-fits}
 use Rattle.sheet.proofs.Totals.{total-le}
 
 room-by : (m : ℕ) (t : List ℕ) → ((k : ℕ) → getD t k 0 ≤ m) → allAtMost m t ≡ true
@@ -59,3 +60,16 @@ module _ (es : List Entry) (all : AllAllowed es) (n : ℕ) (few : length es + n 
   unfolding goesOn added
   sheet-goes-on =
       rw (room-by (18446744073709551615 - n) (totalsTo (replicate 16 0) es 16) (λ (k : ℕ). omega (arith, total-le (replicate 16 0) es k, zeros 16 k))) run-on
+
+-- what a sheet holds after a log of n records, where n could be added: every number fits 64 bits
+module _ (s : Sheet) (es : List Entry) (goes : goesOn s (length es) ≡ true) where
+  pub totals-hold : (k : ℕ) → length es ≤ 18446744073709551615 → getD (added s es .totals) k 0 < 18446744073709551616
+  unfolding added
+  totals-hold k h = omega (arith, total-le (s .totals) es k, totals-fit s (length es) goes k)
+
+  pub run-holds : length es ≤ 18446744073709551615 → (added s es .run .high < 18446744073709551616) × (added s es .run .low < 18446744073709551616)
+  unfolding added
+  run-holds h =
+      let f = run-fits s (length es) goes in
+      let r = run-room (s .run) es (length es) (f .1) (omega arith) in
+      (omega (arith, r .2 (omega arith)), omega (arith, r .0))

@@ -1,23 +1,22 @@
 -- A log added to a sheet: a turn of the pass, and every outcome.
 -- Assumes nothing.
-use mathlib.Core.Bool.{Bool, true, false, not, _&&_}
-use mathlib.Core.List.{List, [], _∷_, _++_}
-use mathlib.Core.Path.{_≡_, refl, sym, ap, _∙_}
-use Prim.Native.Nat.{ℕ, _+_, _-_, _*_, _/_, _%_, _≤_, _<_}
+use mathlib.Core.Bool.{Bool, true, false, not}
+use mathlib.Core.List.{List, [], _∷_}
+use mathlib.Core.Path.{_≡_, sym, _∙_}
+use Prim.Native.Nat.{ℕ, _+_, _-_, _*_, _%_, _≤_, _<_}
 use native.Mathlib.Omega.{arith}
-use borrow.Author.Tests.{eq-eqb, ne-eqb, lt-ltb, le-ltb, leb-true, ltb-true}
-use lib.Dec.{eqb, ltb, leb}
+use borrow.Author.Tests.{eq-eqb, ne-eqb, lt-ltb, le-ltb, leb-true, ltb-true, not-false}
+use lib.Dec.{ltb, leb}
 use lib.ListN.{length, getD}
-use Rattle.octets.specs.Choice.{pick}
 use Rattle.frame.specs.Rules.{Rule, _when_}
-use Rattle.frame.proofs.FirstRule.{first-found, first-zero, none-hold}
+use Rattle.frame.proofs.FirstRule.{first-found, first-zero, none-hold, none-first}
 use Rattle.log.specs.declared.Entry.{Entry}
-use Rattle.log.specs.Log.{entryFrom, entriesTo, goodFrom, badFrom, recordsIn, logRulesOf, logRefusalOf, Judges}
+use Rattle.log.specs.Log.{entryFrom, entriesTo, badFrom, recordsIn, logRulesOf, logRefusalOf, Judges}
 use Rattle.log.proofs.Accepted.{both}
 use Rattle.log.proofs.Returned.{entries-more, entries-length}
 use Rattle.sheet.specs.declared.Run.{Run}
 use Rattle.sheet.specs.declared.Sheet.{Sheet}
-use Rattle.sheet.specs.Sheets.{totalsAdded, billion, runAdded, added, allAtMost, runGoesOn, goesOn, addingRefusalOf, Adds}
+use Rattle.sheet.specs.Sheets.{totalsAdded, billion, runAdded, added, allAtMost, runGoesOn, goesOn, addingRulesOf, addingRefusalOf, Adds}
 use Rattle.sheet.specs.SheetClauses.{Ready, Stopped}
 use Rattle.sheet.proofs.Gaps.{run-none, run-joined, run-room}
 use Rattle.sheet.proofs.Totals.{totals-none, totals-joined, total-le, room-at}
@@ -115,3 +114,10 @@ module _ (s : Sheet) (l : List ℕ) where
         let none = none-hold (logRulesOf l) (tt, (tt, tt)) (sym (j .number) ∙ z) in
         let e : addingRefusalOf s l ≡ 12 = first-zero (logRulesOf l) (stop s l) none ∙ (rw (st .stops)) in
         record { number = sym e; bad = rw e; sheet = rw e }
+
+  -- a log that was added was accepted, and the sheet could go on
+  pub adding-accepted : addingRefusalOf s l ≡ 0 → (logRefusalOf l ≡ 0) × (goesOn s (recordsIn l) ≡ true)
+  unfolding addingRefusalOf logRefusalOf
+  adding-accepted e =
+      let p = none-hold (addingRulesOf s l) (tt, (tt, (tt, tt))) e in
+      (none-first (logRulesOf l) (p .0, (p .1 .0, tt)), not-false _ (p .1 .1 .0))

@@ -1,20 +1,16 @@
 -- A WEEK IS ITS NIGHTS: logs added one after the other give the sheet of them joined.
 -- Assumes nothing.
-use mathlib.Core.Bool.{Bool, true, false, _&&_}
 use mathlib.Core.List.{List, [], _∷_, _++_, append-assoc, append-nil}
 use mathlib.Core.Path.{_≡_, refl, sym, ap, ap₂, _∙_}
-use Prim.Native.Nat.{ℕ, zero, suc, _+_, _-_, _*_, _/_, _%_, _≤_, _<_}
+use Prim.Native.Nat.{ℕ, zero, suc, _+_, _*_, _≤_, _<_}
 use native.Mathlib.Omega.{arith}
-use borrow.Author.Tests.{eq-eqb, ne-eqb, le-leb, lt-ltb}
-use lib.Dec.{eqb, ltb, leb}
 use lib.ListN.{length, getD, length-append, List·getD-append}
-use Rattle.octets.specs.Choice.{pick}
 use Rattle.log.specs.declared.Entry.{Entry}
 use Rattle.log.specs.Log.{entryFrom, entriesTo, entriesOf, recordsIn, logRefusalOf}
-use Rattle.log.proofs.Accepted.{AllAllowed, whole, all-allowed}
+use Rattle.log.proofs.Accepted.{all-allowed}
 use Rattle.log.proofs.Returned.{entry-behind, entries-length}
 use Rattle.sheet.specs.declared.Sheet.{Sheet}
-use Rattle.sheet.specs.Sheets.{count, isFrame, isLost, isIdle, fctsOf, gaps, missing, billion, metAfter, lastAfter, runBy, added, nothing, sheetOf, seam, inRow}
+use Rattle.sheet.specs.Sheets.{count, isFrame, isLost, isIdle, inRow, fctsOf, missing, billion, runBy, added, nothing, sheetOf, seam}
 use Rattle.sheet.proofs.Gaps.{run-joined, missing-joined}
 use Rattle.sheet.proofs.RowsMean.{all-counted, row-of}
 use Rattle.sheet.proofs.Totals.{totals-joined, count-append}
@@ -67,17 +63,16 @@ module _ (l m : List ℕ) where
       ∙ ap₂ (λ (x : List Entry) (y : Entry). x ++ (y ∷ [])) (entries-joined k h n) (ap (entryFrom (l ++ m)) w ∙ entry-behind l m (16 * k) h (16 * n))
       ∙ append-assoc (entriesTo l k) (entriesTo m n) (entryFrom m (16 * n) ∷ [])
 
-  module _ (accepted : logRefusalOf l ≡ 0) where
+  module _ (even : length l ≡ 16 * recordsIn l) where
     pub joined : entriesOf (l ++ m) ≡ entriesOf l ++ entriesOf m
     joined =
-        let w = whole l accepted in
         let e : recordsIn (l ++ m) ≡ recordsIn l + recordsIn m = omega (arith, length-append l m) in
-        ap (entriesTo (l ++ m)) e ∙ entries-joined (recordsIn l) w (recordsIn m)
+        ap (entriesTo (l ++ m)) e ∙ entries-joined (recordsIn l) even (recordsIn m)
 
     -- A LOG ADDED TO THE SHEET OF ANOTHER gives the sheet of both joined
     pub logs-added : added (sheetOf (entriesOf l)) (entriesOf m) ≡ sheetOf (entriesOf (l ++ m))
     logs-added = added-joined nothing (entriesOf l) (entriesOf m) ∙ ap sheetOf (sym joined)
 
-    -- FRAMES, LOST AND IDLE of an accepted log add up to its number of records
-    pub adds-up : count isFrame (entriesOf l) + count isLost (entriesOf l) + count isIdle (entriesOf l) ≡ recordsIn l
-    adds-up = all-counted (entriesOf l) (all-allowed l accepted) ∙ entries-length l (recordsIn l)
+-- FRAMES, LOST AND IDLE of an accepted log add up to its number of records
+pub adds-up : (l : List ℕ) → logRefusalOf l ≡ 0 → count isFrame (entriesOf l) + count isLost (entriesOf l) + count isIdle (entriesOf l) ≡ recordsIn l
+adds-up l accepted = all-counted (entriesOf l) (all-allowed l accepted) ∙ entries-length l (recordsIn l)

@@ -4,7 +4,6 @@ ghost use mathlib.Core.List.{[], _∷_};
 ghost use mathlib.Core.Path.{_≡_};
 ghost use Prim.Native.Nat.{ℕ, _+_, _/_, _%_, _<_};
 ghost use lib.ListN.{length, getD};
-ghost use Rattle.log.specs.Log.{recordsIn};
 ghost use Rattle.sheet.specs.Sheets.{rowBy, gap, totalsAdded, runAdded, allAtMost, runGoesOn, goesOn, Adds};
 ghost use Rattle.sheet.specs.SheetClauses.{Ready, Stopped};
 use log::Entry;

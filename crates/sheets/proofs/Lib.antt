@@ -1,1 +1,2 @@
+pub mod CSheets
 pub mod SheetStored

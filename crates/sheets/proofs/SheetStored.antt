@@ -1,25 +1,21 @@
 -- Logs and sheets in bytes, stored piece by piece; what the exports leave.
 -- Assumes nothing.
-use mathlib.Core.List.{List, [], _∷_, _++_, append-assoc}
+use mathlib.Core.List.{List, [], _∷_, _++_}
 use mathlib.Core.Path.{_≡_, refl, sym, ap, _∙_}
-use Prim.Native.Nat.{ℕ, zero, suc, _+_, _*_, _≤_, _<_}
+use Prim.Native.Nat.{ℕ, zero, suc, _+_, _*_, _<_}
 use native.Mathlib.Numerals.{add-one}
 use native.Mathlib.Omega.{arith}
-use borrow.Author.Tests.{eq-eqb}
-use lib.Dec.{eqb}
 use lib.ListN.{length, getD, set, take, length-append, List·getD-append}
 use lib.Seq.{getD-set-same, getD-set-other, ext-getD, getD-at}
 use mathlib.Core.Logic.{⊎-elim}
 use native.Mathlib.Nat.{eq-or-lt-of-le}
-use Rattle.octets.specs.Choice.{pick}
 use Rattle.octets.specs.Stores.{put, bytesOfEach}
 use Rattle.octets.specs.Words.{split, bytes8, eightAt}
 use Rattle.octets.proofs.Storing.{put-chain, put-all, each-length, each-put}
 use Rattle.log.specs.declared.Entry.{Entry}
-use Rattle.log.specs.Log.{entryFrom, entryRefusalOf, Judges, Finds}
-use Rattle.sheet.specs.declared.Run.{Run}
+use Rattle.log.specs.Log.{entryFrom, Judges, Finds}
 use Rattle.sheet.specs.declared.Sheet.{Sheet}
-use Rattle.sheet.specs.Sheets.{added, addingRefusalOf, Adds}
+use Rattle.sheet.specs.Sheets.{addingRefusalOf, Adds}
 use Rattle.sheets.specs.SheetBytes.{judgedBytes, entryBytes, sheetBytes, totalsIn, sheetIn, addedBytes}
 
 -- ---- a log judged

@@ -1,16 +1,17 @@
 -- Logs and sheets at the C boundary, as docs/BOUNDARY.md lays them out: fields one after another, high byte first.
 -- Assumes nothing.
 use mathlib.Core.List.{List, [], _∷_, _++_}
-use Prim.Native.Nat.{ℕ, zero, suc, _*_}
+use Prim.Native.Nat.{ℕ, zero, suc, _*_, _<_, _^_}
 use lib.Dec.{eqb}
-use lib.ListN.{getD}
+use lib.ListN.{length, getD, replicate}
 use Rattle.octets.specs.Choice.{pick}
 use Rattle.octets.specs.Stores.{bytesOfEach}
 use Rattle.octets.specs.Words.{split, bytes8, eightAt}
 use Rattle.log.specs.declared.Entry.{Entry}
 use Rattle.log.specs.Log.{entriesOf, firstBad, logRefusalOf}
 use Rattle.sheet.specs.declared.Sheet.{Sheet}
-use Rattle.sheet.specs.Sheets.{added}
+use Rattle.sheet.specs.Sheets.{added, addingRefusalOf}
+use Rattle.controller.specs.Boundary.{Told}
 
 -- a log judged, nine bytes: its number, and the bad record for 29
 unfoldable pub judgedBytes : List ℕ → List ℕ
@@ -37,3 +38,9 @@ sheetIn b =
 -- a log's entries added to the sheet in these bytes
 unfoldable pub addedBytes : List ℕ → List ℕ → List ℕ
 addedBytes l b = sheetBytes (added (sheetIn b) (entriesOf l))
+
+-- ---- a week from C: logs, each as long as a slice can be, added one after the other to a sheet of zeros; each call is lent the bytes that the call before it
+-- left, and answers 0
+pub data Summed : List ℕ → List ℕ → Type 0 where
+  none : Summed [] (replicate 146 0)
+  more : {l was left : List ℕ} (m : List ℕ) → length m < 2 ^ 64 → Summed l was → Told 146 (addingRefusalOf (sheetIn was) m) (addedBytes m was) was left 0 → Summed (l ++ m) left

@@ -1,10 +1,10 @@
 // Logs and sheets on numbers and byte slices, for C.
 ghost use mathlib.Core.List.{[], _∷_};
 ghost use mathlib.Core.Path.{_≡_};
-ghost use Prim.Native.Nat.{_*_, _≤_};
+ghost use Prim.Native.Nat.{_*_};
 ghost use lib.ListN.{length};
 ghost use Rattle.octets.specs.Stores.{put, bytesOfEach};
-ghost use Rattle.octets.specs.Words.{split, bytes8, eightAt};
+ghost use Rattle.octets.specs.Words.{split, bytes8};
 ghost use Rattle.log.specs.Log.{entryFrom, entryRefusalOf, WritesEntry};
 ghost use Rattle.sheet.specs.Sheets.{addingRefusalOf};
 ghost use Rattle.controller.specs.Boundary.{Told};

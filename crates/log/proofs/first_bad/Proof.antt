@@ -2,7 +2,7 @@ use Rattle.log.specs.Log.{badFrom}
 use native.Mathlib.Omega.{arith}
 use borrow.Author.Tests.{not-true, not-false}
 use Prim.Native.Nat.{_≤_, _-_}
-use mathlib.Core.Path.{_≡_, refl, sym, _∙_}
+use mathlib.Core.Path.{_≡_, sym, _∙_}
 use Rattle.log.proofs.Judged.{bad-begin, bad-stop, bad-more, bad-end}
 use borrow.Author.Needs.{needs}
 use Rattle.log.proofs.first_bad.Statement.{statement}

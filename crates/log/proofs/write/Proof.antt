@@ -1,5 +1,5 @@
 use borrow.Author.Tests.{not-true, not-false}
-use mathlib.Core.Path.{_≡_, refl, sym, _∙_}
+use mathlib.Core.Path.{refl, sym, _∙_}
 use Rattle.log.proofs.Judged.{not-sixteen, not-allowed, written}
 use borrow.Author.Needs.{needs}
 use Rattle.log.proofs.write.Statement.{statement}

@@ -1,12 +1,11 @@
 use Rattle.log.specs.Log.{entriesTo, badFrom}
 use Rattle.log.proofs.Judged.{bad-begin, bad-stop, bad-more, bad-end, found-good, found-bad}
 use Rattle.sheet.specs.Sheets.{totalsAdded, runAdded}
-use Rattle.sheet.specs.SheetClauses.{Ready}
 use Rattle.sheet.proofs.Summing.{pass-begins, totals-room, run-room-at, totals-turn, run-turn, pass-stops, pass-ends}
 use native.Mathlib.Nat.{le-antisymm}
 use native.Mathlib.Omega.{arith}
 use Prim.Native.Nat.{_≤_, _-_}
-use mathlib.Core.Path.{_≡_, refl, sym, _∙_}
+use mathlib.Core.Path.{_≡_, _∙_}
 use borrow.Author.Needs.{needs}
 use Rattle.sheet.proofs.summed.Statement.{statement}
 use Rattle.sheet.proofs.summed.Tie as tie

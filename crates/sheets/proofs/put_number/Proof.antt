@@ -1,4 +1,4 @@
-use mathlib.Core.List.{[], _∷_}
+use mathlib.Core.List.{[]}
 use Rattle.octets.proofs.Storing.{stores}
 use borrow.Author.Needs.{needs}
 use Rattle.sheets.proofs.put_number.Statement.{statement}
