@@ -1,25 +1,14 @@
--- Logs and sheets at the C boundary, as docs/BOUNDARY.md lays them out: fields one after another, high byte first.
+-- Sheets at the C boundary, as docs/BOUNDARY.md lays them out: fields one after another, high byte first.
 -- Assumes nothing.
 use mathlib.Core.List.{List, [], _∷_, _++_}
 use Prim.Native.Nat.{ℕ, zero, suc, _*_, _<_, _^_}
-use lib.Dec.{eqb}
 use lib.ListN.{length, getD, replicate}
-use Rattle.octets.specs.Choice.{pick}
 use Rattle.octets.specs.Stores.{bytesOfEach}
 use Rattle.octets.specs.Words.{split, bytes8, eightAt}
-use Rattle.log.specs.declared.Entry.{Entry}
-use Rattle.log.specs.Log.{entriesOf, firstBad, logRefusalOf}
+use Rattle.log.specs.Log.{entriesOf}
 use Rattle.sheet.specs.declared.Sheet.{Sheet}
 use Rattle.sheet.specs.Sheets.{added, addingRefusalOf}
 use Rattle.controller.specs.Boundary.{Told}
-
--- a log judged, nine bytes: its number, and the bad record for 29
-unfoldable pub judgedBytes : List ℕ → List ℕ
-judgedBytes l = logRefusalOf l ∷ split bytes8 (pick (eqb (logRefusalOf l) 29) (firstBad l) 0)
-
--- an entry, eleven bytes: place, kind, code, level
-unfoldable pub entryBytes : Entry → List ℕ
-entryBytes e = split bytes8 (e .place) ++ (e .kind ∷ e .code ∷ e .level ∷ [])
 
 -- a sheet, 146 bytes: the sixteen totals, high, low, whether a frame was met, and the last one's FCT
 unfoldable pub sheetBytes : Sheet → List ℕ

@@ -1,9 +1,9 @@
 use mathlib.Core.Path.{_∙_}
 use Rattle.controller.proofs.Telling.{wrong-length, told-refused, told-given}
-use Rattle.sheets.proofs.SheetStored.{entry-found}
+use Rattle.logs.proofs.LogStored.{entry-found}
 use borrow.Author.Needs.{needs}
-use Rattle.sheets.proofs.spindlewren_log_entry.Statement.{statement}
-use Rattle.sheets.proofs.spindlewren_log_entry.Tie as tie
+use Rattle.logs.proofs.spindlewren_log_entry.Statement.{statement}
+use Rattle.logs.proofs.spindlewren_log_entry.Tie as tie
 
 returns : tie.Need-returns
 returns c = wrong-length 11 _ _ _ (c .if1 .taken)

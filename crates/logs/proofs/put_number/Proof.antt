@@ -1,8 +1,8 @@
 use mathlib.Core.List.{[]}
 use Rattle.octets.proofs.Storing.{stores}
 use borrow.Author.Needs.{needs}
-use Rattle.sheets.proofs.put_number.Statement.{statement}
-use Rattle.sheets.proofs.put_number.Tie as tie
+use Rattle.logs.proofs.put_number.Statement.{statement}
+use Rattle.logs.proofs.put_number.Tie as tie
 
 returns : tie.Need-returns
 returns c = stores _ 0 _ [] (search needs)

@@ -1,9 +1,9 @@
 use mathlib.Core.Path.{refl}
 use Rattle.controller.proofs.Telling.{wrong-length, told-given}
-use Rattle.sheets.proofs.SheetStored.{judged-stored}
+use Rattle.logs.proofs.LogStored.{judged-stored}
 use borrow.Author.Needs.{needs}
-use Rattle.sheets.proofs.spindlewren_log_judged.Statement.{statement}
-use Rattle.sheets.proofs.spindlewren_log_judged.Tie as tie
+use Rattle.logs.proofs.spindlewren_log_judged.Statement.{statement}
+use Rattle.logs.proofs.spindlewren_log_judged.Tie as tie
 
 returns : tie.Need-returns
 returns c = wrong-length 9 _ _ _ (c .if1 .taken)

@@ -1,8 +1,8 @@
 use mathlib.Core.List.{[], _∷_}
 use Rattle.octets.proofs.Storing.{stores}
 use borrow.Author.Needs.{needs}
-use Rattle.sheets.proofs.put_values.Statement.{statement}
-use Rattle.sheets.proofs.put_values.Tie as tie
+use Rattle.logs.proofs.put_values.Statement.{statement}
+use Rattle.logs.proofs.put_values.Tie as tie
 
 returns : tie.Need-returns
 returns c = stores _ 8 _ (_ ∷ _ ∷ []) (search needs)

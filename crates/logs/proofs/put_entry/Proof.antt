@@ -1,7 +1,7 @@
-use Rattle.sheets.proofs.SheetStored.{entry-stored}
+use Rattle.logs.proofs.LogStored.{entry-stored}
 use borrow.Author.Needs.{needs}
-use Rattle.sheets.proofs.put_entry.Statement.{statement}
-use Rattle.sheets.proofs.put_entry.Tie as tie
+use Rattle.logs.proofs.put_entry.Statement.{statement}
+use Rattle.logs.proofs.put_entry.Tie as tie
 
 returns : tie.Need-returns
 returns c = entry-stored _ _ _ _ (c .before .before .before .before .before .before .before .before .before .pre) (c .before .before .before .before .before .before .put8 .ensures) (c .before .before .put-values .ensures)
