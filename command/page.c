@@ -5,7 +5,7 @@
 #include <string.h>
 
 /* A strip has at most so many columns, of whole periods of 24 ms; it is as many units wide. */
-enum { COLUMNS = 600, PERIOD = 6144, MS = 24, LEFT = 350, RIGHT = 170, LANE = 22, TALL = 16, WIDE = LEFT + COLUMNS + RIGHT, TEXT = 160 };
+enum { COLUMNS = 600, PERIOD = 6144, MS = 24, MINUTE = 2500, LEFT = 380, RIGHT = 170, LANE = 22, TALL = 16, WIDE = LEFT + COLUMNS + RIGHT, TEXT = 160 };
 
 /* What a strip shows: how many items of each row stand in each column, and how many periods a column has. */
 struct strip {
@@ -31,10 +31,10 @@ static void text(const char *name) {
     }
 }
 
-/* So many periods as a time: seconds below a minute, else hours, minutes and seconds. */
-static const char *time_of(unsigned long long periods, char *to) {
-    unsigned long long s = periods / 1000 * MS + periods % 1000 * MS / 1000, ms = periods % 1000 * MS % 1000;
-    if (s < 60)
+/* So many periods as a time: in seconds where `scale`, as many periods or more, are less than a minute, else in hours, minutes and seconds. */
+static const char *time_of(unsigned long long periods, unsigned long long scale, char *to) {
+    unsigned long long s = periods / 125 * 3 + periods % 125 * MS / 1000, ms = periods % 125 * MS % 1000;
+    if (scale < MINUTE)
         snprintf(to, TEXT, "%llu.%03llu s", s, ms);
     else
         snprintf(to, TEXT, "%llu:%02llu:%02llu", s / 3600, s / 60 % 60, s % 60);
@@ -102,22 +102,23 @@ static void lane(const struct strip *strip, const uint8_t *sheet, size_t row, un
     unsigned long long n = total(sheet, sheet_rows[row]);
     unsigned part = share(n, all_items(sheet));
     name_row(sheet_rows[row], what, sizeof what);
-    printf("<g><title>%s: %llu of %llu items, the first at %s, the last at %s</title>", what, n, all_items(sheet), time_of(strip->first[row], from),
-           time_of(strip->last[row] - 1, to));
+    printf("<g><title>%s: %llu of %llu items, the first at %s, the last at %s</title>", what, n, all_items(sheet), time_of(strip->first[row], strip->periods, from),
+           time_of(strip->last[row] - 1, strip->periods, to));
     printf("<text x=\"%d\" y=\"%u\" text-anchor=\"end\">%s</text>", LEFT - 8, y + TALL - 4, what);
     printf("<rect x=\"%d\" y=\"%u\" width=\"%d\" height=\"%d\" fill=\"#f2f2f2\"/>", LEFT, y, COLUMNS, TALL);
     marks(strip, row, y + TALL);
     printf("<text x=\"%d\" y=\"%u\">%llu (%u.%02u per cent)</text></g>\n", LEFT + COLUMNS + 8, y + TALL - 4, n, part / 100, part % 100);
 }
 
-/* The scale under the lanes: five times, from the beginning to the end. */
+/* The scale under the lanes: the beginning, up to three times between, and the end of the last period. */
 static void scale(const struct strip *strip, unsigned y) {
     char at[TEXT];
-    unsigned tick;
-    for (tick = 0; tick <= 4; tick++) {
-        unsigned x = LEFT + tick * COLUMNS / 4;
-        printf("<path stroke=\"#555\" d=\"M%u %uv6\"/><text x=\"%u\" y=\"%u\" text-anchor=\"middle\">%s</text>", x, y, x, y + 18,
-               time_of(strip->columns * strip->each * tick / 4, at));
+    unsigned long long step = (strip->periods + 3) / 4, period = 0;
+    for (;;) {
+        unsigned x = LEFT + (unsigned)((double)COLUMNS * (double)period / ((double)strip->columns * (double)strip->each) + 0.5);
+        printf("<path stroke=\"#555\" d=\"M%u %uv6\"/><text x=\"%u\" y=\"%u\" text-anchor=\"middle\">%s</text>", x, y, x, y + 18, time_of(period, strip->periods, at));
+        if (period == strip->periods) break;
+        period = strip->periods - period < step ? strip->periods : period + step;
     }
     printf("\n");
 }
@@ -141,10 +142,10 @@ static void night(const char *name, size_t number) {
         printf("<p>The log is empty.</p>\n");
         return;
     }
-    time_of(strip.periods, all);
-    time_of(strip.each, column);
+    time_of(strip.periods, strip.periods, all);
+    time_of(strip.each, strip.each, column);
     printf("<p>%llu items in %s of the record. Time runs from left to right by an item's place, 24 ms for each period of 6,144 bytes; one column is %s. A mark is as tall as "
-           "its share of the column; where no row has one, nothing was handed out.</p>\n", all_items(sheet), all, column);
+           "its share of the column, and never too small to be seen; where no lane has one, nothing was handed out.</p>\n", all_items(sheet), all, column);
     printf("<svg xmlns=\"http://www.w3.org/2000/svg\" role=\"img\" aria-labelledby=\"t%zu d%zu\" viewBox=\"0 0 %d %u\">\n<title id=\"t%zu\">", number, number, WIDE,
            lanes * LANE + 30, number);
     text(name);

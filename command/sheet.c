@@ -7,7 +7,7 @@
 const unsigned sheet_rows[SHEET_ROWS] = {0, 1, 2, 3, 6, 7, 9, 10, 11, 12, 13, 14, SPINDLEWREN_IDLE_ROW};
 
 void name_row(unsigned row, char *text, size_t size) {
-    static const char *const levels[] = {"no damage known", "it came with level 1", "main-stream sum wrong, or it came with level 2", "it came with level 3, the worst"};
+    static const char *const levels[] = {"no damage known", "as it came", "main-stream sum wrong, or as it came", "the worst, as it came"};
     if (row < SPINDLEWREN_LOST_ROW)
         snprintf(text, size, "frames at level %u: %s", row, levels[row]);
     else if (row == SPINDLEWREN_IDLE_ROW)
@@ -85,28 +85,35 @@ unsigned share(unsigned long long n, unsigned long long all) {
     return hundredths + (n >= all - n);
 }
 
-static void line(const uint8_t *sheet, unsigned row, unsigned long long all) {
+static void line(const uint8_t *sheet, unsigned row, unsigned long long all, int wide) {
     char what[96];
     unsigned part = share(total(sheet, row), all);
     name_row(row, what, sizeof what);
-    printf("%20llu %5u.%02u  %s\n", total(sheet, row), part / 100, part % 100, what);
+    printf("%*llu %5u.%02u  %s\n", wide, total(sheet, row), part / 100, part % 100, what);
+}
+
+static void table(const struct request *asked, const uint8_t *sheet) {
+    char missing[MISSING_DIGITS], items[MISSING_DIGITS];
+    unsigned long long all = all_items(sheet);
+    int wide = (int)strlen("items"), n;
+    size_t i;
+    missing_frames(sheet, missing);
+    n = snprintf(items, sizeof items, "%llu", all);
+    if (n > wide) wide = n;
+    if ((int)strlen(missing) > wide) wide = (int)strlen(missing);
+    printf("%*s per cent  what\n", wide, "items");
+    for (i = 0; i < SHEET_ROWS; i++) line(sheet, sheet_rows[i], all, wide);
+    printf("%*s %5u.00  all items, of %zu %s\n", wide, items, all == 0 ? 0 : 100, asked->count, asked->count == 1 ? "log" : "logs joined");
+    printf("%*s           frames missing by FCT, from each frame to the next\n", wide, missing);
 }
 
 void sheet(const struct request *asked) {
     uint8_t bytes[SPINDLEWREN_SHEET];
-    char missing[MISSING_DIGITS];
-    unsigned long long all;
     size_t i;
     memset(bytes, 0, sizeof bytes);
     for (i = 0; i < asked->count; i++) add_log(asked->files[i], bytes);
-    if (asked->html) {
+    if (asked->html)
         page(asked, bytes);
-        return;
-    }
-    all = all_items(bytes);
-    missing_frames(bytes, missing);
-    puts("               items per cent  what");
-    for (i = 0; i < SHEET_ROWS; i++) line(bytes, sheet_rows[i], all);
-    printf("%20llu %5u.00  all items, of %zu %s\n", all, all == 0 ? 0 : 100, asked->count, asked->count == 1 ? "log" : "logs joined");
-    printf("%20s           frames missing by FCT, from each frame to the next\n", missing);
+    else
+        table(asked, bytes);
 }
