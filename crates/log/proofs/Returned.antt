@@ -85,11 +85,12 @@ abbrev pub Placed : List Entry → Type 0
 Placed [] = Unit {0}
 Placed (e ∷ es) = (e .place < 2 ^ 64) × Placed es
 
+-- what stands behind n elements
 module _ (r l : List ℕ) (n : ℕ) (h : length r ≡ n) where
-  behind : (k : ℕ) → getD (r ++ l) (n + k) 0 ≡ getD l k 0
+  pub behind : (k : ℕ) → getD (r ++ l) (n + k) 0 ≡ getD l k 0
   behind k = rw (← h) (getD-append-add r l k 0)
 
-  moved : (at k : ℕ) → getD (r ++ l) (n + at + k) 0 ≡ getD l (at + k) 0
+  pub moved : (at k : ℕ) → getD (r ++ l) (n + at + k) 0 ≡ getD l (at + k) 0
   moved at k = let e : n + at + k ≡ n + (at + k) = omega arith in rw e (behind (at + k))
 
   pub entry-behind : (at : ℕ) → entryFrom (r ++ l) (n + at) ≡ entryFrom l at

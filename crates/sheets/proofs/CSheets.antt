@@ -8,7 +8,6 @@ use native.Mathlib.Omega.{arith}
 use borrow.Author.Tests.{eqb-true}
 use lib.Dec.{eqb}
 use lib.ListN.{length, getD, length-append}
-use lib.Seq.{getD-append-add}
 use Rattle.octets.specs.Choice.{pick}
 use Rattle.octets.specs.Stores.{bytesOfEach}
 use Rattle.octets.specs.Words.{split, bytes8, eightAt}
@@ -17,7 +16,7 @@ use Rattle.octets.proofs.Storing.{each-length}
 use Rattle.log.specs.declared.Entry.{Entry}
 use Rattle.log.specs.Log.{recordsIn, entriesTo, entriesOf, logRefusalOf}
 use Rattle.log.proofs.Accepted.{AllAllowed, whole, all-allowed}
-use Rattle.log.proofs.Returned.{entries-length}
+use Rattle.log.proofs.Returned.{behind, moved, entries-length}
 use Rattle.sheet.specs.declared.Sheet.{Sheet}
 use Rattle.sheet.specs.Sheets.{count, totalsTo, fctsOf, gaps, lastAfter, runBy, added, sheetOf, goesOn, addingRefusalOf}
 use Rattle.sheet.proofs.GoingOn.{sheet-goes-on, totals-hold, run-holds}
@@ -29,15 +28,10 @@ use Rattle.sheets.specs.SheetBytes.{sheetBytes, totalsIn, sheetIn, added
 use Rattle.sheets.proofs.SheetStored.{all-read}
 
 -- ---- what is stored is read back
-module _ (r l : List ℕ) (n : ℕ) (h : length r ≡ n) where
-  behind : (k : ℕ) → getD (r ++ l) (n + k) 0 ≡ getD l k 0
-  behind k = rw (← h) (getD-append-add r l k 0)
-
-  moved : (at k : ℕ) → getD (r ++ l) (n + at + k) 0 ≡ getD l (at + k) 0
-  moved at k = let e : n + at + k ≡ n + (at + k) = omega arith in rw e (behind (at + k))
-
-  eight-behind : (at : ℕ) → eightAt (r ++ l) (n + at) ≡ eightAt l at
-  eight-behind at = rw (behind at, moved at 1, moved at 2, moved at 3, moved at 4, moved at 5, moved at 6, moved at 7)
+eight-behind : (r l : List ℕ) (n : ℕ) → length r ≡ n → (at : ℕ) → eightAt (r ++ l) (n + at) ≡ eightAt l at
+eight-behind r l n h at =
+    let m = moved r l n h at in
+    rw (behind r l n h at, m 1, m 2, m 3, m 4, m 5, m 6, m 7)
 
 each-at : (t rest : List ℕ) → ((k : ℕ) → getD t k 0 < 2 ^ 64) → (k : ℕ) → k < length t → eightAt (bytesOfEach (split bytes8) t ++ rest) (8 * k) ≡ getD t k 0
 each-at [] rest h k o = absurd (omega arith)
