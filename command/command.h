@@ -7,17 +7,23 @@
 /* Exit statuses. */
 enum { DONE = 0, COULD_NOT = 1, WRONG_USE = 2 };
 
-/* What a verb is asked: a file, a place where the verb takes one, and the limit of misses. */
+/* What a verb is asked: a file or several, a place where the verb takes one, the limit of misses, and whether a page is wanted. */
 struct request {
     const char *file;
+    char **files;
+    size_t count;
     size_t place;
     size_t limit;
+    int html;
 };
 
-/* A verb: its name, whether it takes a place, what it does, and the line of help. */
+/* What a verb takes beside a file. */
+enum { TAKES_LIMIT = 1, TAKES_PLACE = 2, TAKES_MANY = 4, TAKES_HTML = 8 };
+
+/* A verb: its name, what it takes, what it does, and the line of help. */
 struct verb {
     const char *name;
-    int takes_place;
+    unsigned takes;
     void (*run)(const struct request *asked);
     const char *help;
 };
@@ -26,6 +32,8 @@ void list(const struct request *asked);
 void profile(const struct request *asked);
 void signalling(const struct request *asked);
 void why(const struct request *asked);
+void keep_log(const struct request *asked);
+void sheet(const struct request *asked);
 
 struct record {
     const uint8_t *bytes;
@@ -35,7 +43,7 @@ struct record {
 /* The whole file, mapped, so that its size does not matter. Ends the command where that cannot be. */
 struct record map(const char *file);
 
-/* A walk over the file from its beginning: the heading, once nothing is refused, and then each item is told, done the last, as the walk's bytes have it. */
+/* A walk over the file from its beginning: the heading, if there is one, once nothing is refused, and then each item is told, done the last, as the walk's bytes have it. */
 void each_item(const struct request *asked, const char *heading, void (*tell)(struct record record, const uint8_t *walk, void *to), void *to);
 
 /* A number in digits alone; 0 where the word is none. One that is too large for its type is the largest: it is outside every range here. */
@@ -46,5 +54,27 @@ void fail(const char *file, const char *reason);
 
 /* .. where the reason is a refusal number. */
 void refuse(const char *file, uint8_t refusal);
+
+/* ---- sheets of logs, for the table and the page */
+
+/* The rows of a sheet that count something, in the order in which they are told, and what each counts. */
+enum { SHEET_ROWS = 13 };
+extern const unsigned sheet_rows[SHEET_ROWS];
+void name_row(unsigned row, char *text, size_t size);
+
+/* A log mapped and added to a sheet. Ends the command at a bad one, with the record and what is wrong in it. */
+struct record add_log(const char *file, uint8_t *sheet);
+
+/* A total of a sheet; all its items; its frames missing, as digits. */
+unsigned long long total(const uint8_t *sheet, unsigned row);
+unsigned long long all_items(const uint8_t *sheet);
+enum { MISSING_DIGITS = 32 };
+void missing_frames(const uint8_t *sheet, char *text);
+
+/* n of all in hundredths of a per cent, to the nearest; 0 of none. */
+unsigned share(unsigned long long n, unsigned long long all);
+
+/* The page of the logs: `sheet` is that of all of them. */
+void page(const struct request *asked, const uint8_t *sheet);
 
 #endif

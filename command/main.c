@@ -6,10 +6,12 @@
 #include <string.h>
 
 static const struct verb verbs[] = {
-    {"list", 0, list, "list [--limit M] FILE         a line for each frame, lost mark and idle period, and the end"},
-    {"profile", 0, profile, "profile [--limit M] FILE      of each frame handed out, whether it passes the final-stage profile, and what is in the way"},
-    {"signalling", 0, signalling, "signalling [--limit M] FILE   each message that the frames' MNSC bytes carry, and each group or message dropped"},
-    {"why", 1, why, "why [--limit M] FILE PLACE    the reason for which the period at a place was aired or not"},
+    {"list", TAKES_LIMIT, list, "list [--limit M] FILE         a line for each frame, lost mark and idle period, and the end"},
+    {"profile", TAKES_LIMIT, profile, "profile [--limit M] FILE      of each frame handed out, whether it passes the final-stage profile, and what is in the way"},
+    {"signalling", TAKES_LIMIT, signalling, "signalling [--limit M] FILE   each message that the frames' MNSC bytes carry, and each group or message dropped"},
+    {"why", TAKES_LIMIT | TAKES_PLACE, why, "why [--limit M] FILE PLACE    the reason for which the period at a place was aired or not"},
+    {"log", TAKES_LIMIT, keep_log, "log [--limit M] FILE > LOG    the fault log of a record: sixteen bytes for each frame, lost mark and idle period"},
+    {"sheet", TAKES_MANY | TAKES_HTML, sheet, "sheet [--html] LOG ..         what one log or several joined add up to, as a table, or as a page to look at"},
 };
 enum { VERBS = sizeof verbs / sizeof verbs[0] };
 
@@ -28,30 +30,34 @@ static int wrong_use(const char *what, const char *word) {
     return WRONG_USE;
 }
 
-/* The words behind a verb: --limit M anywhere, a file, and a place where the verb takes one. */
+/* The words behind a verb: its options anywhere, a file or several, and a place where the verb takes one. */
 static int understood(const struct verb *verb, int argc, char **argv, struct request *asked) {
-    int i, words = 0;
+    int i, place = 0;
+    asked->files = argv;
     for (i = 0; i < argc; i++) {
-        if (strcmp(argv[i], "--limit") == 0) {
+        if (strcmp(argv[i], "--limit") == 0 && verb->takes & TAKES_LIMIT) {
             if (++i == argc || !digits(argv[i], &asked->limit)) return wrong_use("--limit needs a number", "");
+        } else if (strcmp(argv[i], "--html") == 0 && verb->takes & TAKES_HTML) {
+            asked->html = 1;
         } else if (strncmp(argv[i], "--", 2) == 0) {
             return wrong_use("not known: ", argv[i]);
-        } else if (words == 0) {
-            asked->file = argv[i];
-            words = 1;
-        } else if (words == 1 && verb->takes_place) {
+        } else if (asked->count == 0 || verb->takes & TAKES_MANY) {
+            /* the names are moved together, over words that are done with */
+            asked->files[asked->count++] = argv[i];
+        } else if (verb->takes & TAKES_PLACE && !place) {
             if (!digits(argv[i], &asked->place)) return wrong_use("a place is a number: ", argv[i]);
-            words = 2;
+            place = 1;
         } else {
             return wrong_use("one word too many: ", argv[i]);
         }
     }
-    if (words != 1 + verb->takes_place) return wrong_use(verb->takes_place ? "needs a file and a place: " : "needs a file: ", verb->name);
+    if (asked->count == 0 || (verb->takes & TAKES_PLACE && !place)) return wrong_use(verb->takes & TAKES_PLACE ? "needs a file and a place: " : "needs a file: ", verb->name);
+    asked->file = asked->files[0];
     return DONE;
 }
 
 int main(int argc, char **argv) {
-    struct request asked = {NULL, 0, 3};
+    struct request asked = {NULL, NULL, 0, 0, 3, 0};
     size_t i;
     int status, at;
     if (argc < 2) return wrong_use("no verb", "");

@@ -60,7 +60,7 @@ void each_item(const struct request *asked, const char *heading, void (*tell)(st
     struct record record = map(asked->file);
     uint8_t walk[SPINDLEWREN_WALK];
     uint8_t refusal = spindlewren_begin(asked->limit, walk, sizeof walk);
-    if (refusal == SPINDLEWREN_ACCEPTED) puts(heading);
+    if (refusal == SPINDLEWREN_ACCEPTED && heading != NULL) puts(heading);
     while (refusal == SPINDLEWREN_ACCEPTED) {
         refusal = spindlewren_step(record.bytes, record.len, walk, sizeof walk);
         if (refusal != SPINDLEWREN_ACCEPTED) break;

@@ -20,7 +20,11 @@ enum {
     SPINDLEWREN_WHY = 10,     /* spindlewren_why */
     SPINDLEWREN_COLLISION = 3, /* spindlewren_collision */
     SPINDLEWREN_SIGNAL = 24,  /* spindlewren_signal_step */
-    SPINDLEWREN_MESSAGE = 1538 /* the buffer in which a message gathers, at least */
+    SPINDLEWREN_MESSAGE = 1538, /* the buffer in which a message gathers, at least */
+    SPINDLEWREN_LOG_RECORD = 16, /* spindlewren_log_write */
+    SPINDLEWREN_JUDGED = 9,      /* spindlewren_log_judged */
+    SPINDLEWREN_LOG_ENTRY = 11,  /* spindlewren_log_entry */
+    SPINDLEWREN_SHEET = 146      /* spindlewren_sheet */
 };
 
 /* What the answer of spindlewren_read has at which byte; one byte each where no number stands behind. */
@@ -116,6 +120,34 @@ enum {
     SPINDLEWREN_STEPPED_OVER = 5  /* in lock, and never come to */
 };
 
+/* What spindlewren_log_judged tells: the log's number, and for 29 which record is the first bad one, from 0 on. */
+enum {
+    SPINDLEWREN_LOG_NUMBER = 0,
+    SPINDLEWREN_LOG_BAD = 1 /* 8 */
+};
+
+/* What spindlewren_log_entry tells of a record: the item's place, kind, code (a frame's FCT, a lost mark's refusal number, 4 of an idle item) and level
+   (FF unless a frame). */
+enum {
+    SPINDLEWREN_LOG_PLACE = 0, /* 8 */
+    SPINDLEWREN_LOG_KIND = 8,
+    SPINDLEWREN_LOG_CODE = 9,
+    SPINDLEWREN_LOG_LEVEL = 10
+};
+
+/* What a sheet has: sixteen totals of 8 bytes each (0 to 3: frames at that level; 4 + n: lost marks of refusal n, so 6, 7 and 9 to 14; 15: idle items; the rest
+   stay 0), the frames missing by FCT, high * 1,000,000,000 + low, whether a frame was met, 0 or 1, and the last one's FCT. All zero is the sheet of nothing. */
+enum {
+    SPINDLEWREN_TOTALS = 0, /* 16 times 8 */
+    SPINDLEWREN_HIGH = 128, /* 8 */
+    SPINDLEWREN_LOW = 136,  /* 8 */
+    SPINDLEWREN_MET = 144,
+    SPINDLEWREN_LAST = 145,
+    SPINDLEWREN_ROWS = 16,
+    SPINDLEWREN_LOST_ROW = 4,
+    SPINDLEWREN_IDLE_ROW = 15
+};
+
 /* The refusal numbers. 11 belongs to writing alone. */
 enum {
     SPINDLEWREN_ACCEPTED = 0,
@@ -129,18 +161,21 @@ enum {
     SPINDLEWREN_STL_ABOVE = 8,      /* some STL above 684 */
     SPINDLEWREN_FL_DIFFERS = 9,     /* FL differs from the formula */
     SPINDLEWREN_FL_ABOVE = 10,      /* FL above 1,532 */
-    SPINDLEWREN_TOO_WIDE = 12,      /* a value wider than its field: a lock byte above 1 */
+    SPINDLEWREN_TOO_WIDE = 12,      /* a value wider than its field: a lock byte above 1; a sheet that cannot go on */
     SPINDLEWREN_NO_SUCH_STREAM = 13, /* stream index not below NST */
     SPINDLEWREN_OUT_OF_PHASE = 24,  /* signalling: a frame out of phase, the group is dropped */
     SPINDLEWREN_OUT_OF_TURN = 25,   /* signalling: a continuation or end that is not due, or a start in an open message */
     SPINDLEWREN_CLOSING_SUM = 26,   /* signalling: the closing sum is wrong */
     SPINDLEWREN_LIMIT_OUTSIDE = 27, /* limit outside 1 to 8 */
+    SPINDLEWREN_LOG_LENGTH = 28,    /* log not a multiple of sixteen bytes */
+    SPINDLEWREN_NOT_ALLOWED = 29,   /* a kind, code or level that no record has, or a nonzero tail */
     SPINDLEWREN_EQUAL_SCIDS = 30,   /* two streams have one SCID */
     SPINDLEWREN_NO_SIZE = 31,       /* protection with no size */
     SPINDLEWREN_BEYOND = 32,        /* capacity units beyond 863 */
     SPINDLEWREN_OVERLAP = 33,       /* two sub-channels share a capacity unit */
-    SPINDLEWREN_PLACE_OUTSIDE = 34, /* place outside 0 to the record's length less 6,144 */
-    SPINDLEWREN_MESSAGE_LENGTH = 36 /* a message whose length groups cannot carry exactly */
+    SPINDLEWREN_PLACE_OUTSIDE = 34, /* place outside 0 to the record's length less 6,144; of a log, no such record */
+    SPINDLEWREN_MESSAGE_LENGTH = 36, /* a message whose length groups cannot carry exactly */
+    SPINDLEWREN_NOT_SIXTEEN = 37    /* not exactly sixteen bytes lent */
 };
 
 /* Each returns the refusal number, 0 for accepted; refused, not one byte is written. A pointer may be null where its length is 0. */
@@ -184,6 +219,22 @@ uint8_t spindlewren_signal_step(uint8_t fp, uint16_t mnsc, uint8_t *signal, size
    8 + 6 n bytes, n from 0 to 255, then 1 for an output that has not 16 + 8 n. In the same archive. */
 uint8_t spindlewren_signal_write(uint8_t type, const uint8_t *message, size_t message_len, uint8_t *out, size_t out_len);
 
+/* A night's item into a log's record of SPINDLEWREN_LOG_RECORD bytes: 37 for another length, then 29 for a kind, code or level that is not allowed, as that of
+   done is not. These three are in an archive of their own: tools/archive logs. */
+uint8_t spindlewren_log_write(size_t place, uint8_t kind, uint8_t code, uint8_t level, uint8_t *record, size_t record_len);
+
+/* A log judged, into SPINDLEWREN_JUDGED bytes: its number is 28, or 29 with the first bad record, or 0. 1 for an answer of another length. */
+uint8_t spindlewren_log_judged(const uint8_t *log, size_t log_len, uint8_t *judged, size_t judged_len);
+
+/* Record i of a log, from 0 on, into SPINDLEWREN_LOG_ENTRY bytes, at the same cost whatever the log's length: 1 for an answer of another length, then 28, then 34
+   where there is no such record, then 29 where it is bad. */
+uint8_t spindlewren_log_entry(const uint8_t *log, size_t log_len, size_t i, uint8_t *entry, size_t entry_len);
+
+/* A log's entries added to a sheet of SPINDLEWREN_SHEET bytes, so that a week is seven calls, the first over zeros. 1 for a sheet of another length, then 28, then 29,
+   then 12 where the sheet cannot go on: one of the sixteen totals, or high, is above 2^64 - 1 less the number of the log's records; low is 1,000,000,000 or more; met
+   is above 1; met is 0 and the last FCT is not 0; or met is 1 and it is above 249. In an archive of its own: tools/archive sheets. */
+uint8_t spindlewren_sheet(const uint8_t *log, size_t log_len, uint8_t *sheet, size_t sheet_len);
+
 /* The number in `width` bytes from `at` on, high byte first. */
 static inline uint64_t spindlewren_number(const uint8_t *bytes, size_t at, size_t width) {
     uint64_t n = 0;
@@ -217,12 +268,15 @@ static inline const char *spindlewren_label(uint8_t number) {
     case SPINDLEWREN_OUT_OF_TURN: return "a group is out of turn";
     case SPINDLEWREN_CLOSING_SUM: return "closing sum wrong";
     case SPINDLEWREN_LIMIT_OUTSIDE: return "limit outside 1 to 8";
+    case SPINDLEWREN_LOG_LENGTH: return "log not a multiple of sixteen bytes";
+    case SPINDLEWREN_NOT_ALLOWED: return "a kind, code or level that is not allowed, or a nonzero tail";
     case SPINDLEWREN_EQUAL_SCIDS: return "two streams have one SCID";
     case SPINDLEWREN_NO_SIZE: return "protection with no size";
     case SPINDLEWREN_BEYOND: return "capacity units beyond 863";
     case SPINDLEWREN_OVERLAP: return "two sub-channels share a capacity unit";
     case SPINDLEWREN_PLACE_OUTSIDE: return "place outside 0 to the record's length less 6,144";
     case SPINDLEWREN_MESSAGE_LENGTH: return "a message of a length that groups cannot carry";
+    case SPINDLEWREN_NOT_SIXTEEN: return "not exactly sixteen bytes lent";
     default: return "no such number";
     }
 }

@@ -28,7 +28,7 @@ use Rattle.trips.proofs.Fitting.{plain-fit}
 use Rattle.trips.proofs.Writable.{AllFit, Writable, unrefused}
 
 -- the level handed on is one of 0 to 3
-level-le : (n : ℕ) (b : Bool) → n ≤ 3 → levelBy n b ≤ 3
+pub level-le : (n : ℕ) (b : Bool) → n ≤ 3 → levelBy n b ≤ 3
 unfolding levelBy
 level-le n true h = h
 level-le n false h = omega arith

@@ -1,0 +1,7 @@
+pub mod Gaps
+pub mod GoingOn
+pub mod RowsMean
+pub mod SheetExamples
+pub mod Summing
+pub mod Totals
+pub mod Weeks

@@ -1,0 +1,2 @@
+pub mod CSheets
+pub mod SheetStored
