@@ -1,0 +1,197 @@
+-- The pass over a packet: what is noted so far, one item more, and the end.
+-- Assumes nothing.
+use mathlib.Core.Bool.{Bool, true, false}
+use mathlib.Core.List.{List, [], _∷_, _++_, append-nil}
+use mathlib.Core.Path.{_≡_, refl, sym, ap, _∙_}
+use Prim.Native.Nat.{ℕ, _+_, _-_, _*_, _/_, _≤_, _<_, min, max}
+use native.Mathlib.Nat.{div-add-mod'}
+use native.Mathlib.Omega.{arith}
+use borrow.Author.Tests.{eq-eqb, ne-eqb, lt-ltb, le-ltb, ltb-true, ltb-false, eqb-true, eqb-false}
+use lib.Dec.{eqb, ltb}
+use lib.ListN.{length, getD, take, drop, set, replicate, length-take, length-drop, length-set, getD-replicate}
+use lib.Seq.{getD-set-same, getD-set-other, drop-drop, append-snoc, take-all}
+use Rattle.octets.specs.Words.{wordAt}
+use Rattle.items.specs.declared.Slot.{Slot}
+use Rattle.items.specs.declared.Seen.{Seen}
+use Rattle.items.specs.TagItems.{Item, itemIn, itemsOf, partOf, isStream, isBad, someBad, valuesOf, numberBy, highestIn}
+use Rattle.items.specs.Slots.{noSlot, tallyOf, moreBy, badBy, LooksAt, Holds, Noted, Passed}
+use Rattle.items.proofs.ItemList.{items-none, items-more, bad-append, values-append, highest-append, clash, SoundItem, sound-item}
+
+-- ---- a look: a value that runs past is shorter than its length says
+ltb-min : (n l : ℕ) → ltb (min n l) n ≡ ltb l n
+ltb-min n l = go (ltb l n) refl
+  where
+    go : (b : Bool) → ltb l n ≡ b → ltb (min n l) n ≡ ltb l n
+    go true e = let h = ltb-true l n e in lt-ltb (min n l) n (omega arith) ∙ sym e
+    go false e = let h = ltb-false l n e in le-ltb (min n l) n (omega arith) ∙ sym e
+
+value-length : (q : List ℕ) → length (itemIn q .value) ≡ min (itemIn q .bits / 8) (length q - 8)
+unfolding itemIn
+value-length q = length-take _ _ ∙ ap (λ (n : ℕ). min (wordAt q 4 / 8) n) (length-drop 8 q)
+
+pub looked : (q : List ℕ) (r : Seen) → r .part ≡ partOf (wordAt q 0) → r .part ≤ 65 → r .len ≡ wordAt q 4 / 8 → r .bad ≡ badBy (wordAt q 4) (length q - 8) (r .part) → LooksAt q r
+unfolding itemIn isBad badBy
+looked q r p s l b =
+    record { part = p; small = s; len = l; bad = b ∙ rw (p, length-take, length-drop, ltb-min (wordAt q 4 / 8) (length q - 8)) }
+
+-- ---- midway: the items done, and those from `at` on
+pub record Midway (p : List ℕ) (slots : List Slot) (highest at : ℕ) : Type 0 where
+  pub within : at ≤ length p
+  pub done : List Item
+  pub all : itemsOf p ≡ done ++ itemsOf (drop at p)
+  pub sound : someBad done ≡ false
+  pub noted : Noted p done slots
+  pub high : highest ≡ highestIn done
+
+never : {A : Type 0} → _≡_ {A = ℕ} 0 1 → A
+never e = absurd (omega arith)
+
+holds-none : (p : List ℕ) (k : ℕ) → Holds p k [] noSlot
+holds-none p k = record { tally = refl; inside = omega arith; one = λ e. never e; whole = λ e. never e }
+
+pub midway-start : (p : List ℕ) → Midway p (replicate 66 noSlot) 0 0
+unfolding someBad valuesOf highestIn
+midway-start p =
+    record {
+      within = omega arith;
+      done = [];
+      all = refl;
+      sound = refl;
+      noted = record { count = refl; each = λ k h. rw (getD-replicate 66 k noSlot noSlot h) (holds-none p k) };
+      high = refl;
+    }
+
+tally-more : (vs : List (List ℕ)) (v : List ℕ) → moreBy (tallyOf vs) ≡ tallyOf (vs ++ (v ∷ []))
+tally-more [] v = refl
+tally-more (u ∷ []) v = refl
+tally-more (u ∷ w ∷ vs) v = refl
+
+one-only : (vs : List (List ℕ)) (v : List ℕ) → tallyOf (vs ++ (v ∷ [])) ≡ 1 → vs ++ (v ∷ []) ≡ v ∷ []
+one-only [] v e = refl
+one-only (u ∷ []) v e = absurd (omega arith)
+one-only (u ∷ w ∷ vs) v e = absurd (omega arith)
+
+module _ (p : List ℕ) (slots : List Slot) (highest at : ℕ) (w : Midway p slots highest at) (h : 8 ≤ length p - at) (r : Seen) (l : LooksAt (drop at p) r) where
+  abbrev q : List ℕ
+  q = drop at p
+
+  abbrev i : Item
+  i = itemIn (drop at p)
+
+  abbrev next : ℕ
+  next = at + 8 + r .len
+
+  left : length q ≡ length p - at
+  left = length-drop at p
+
+  onward : itemsOf q ≡ i ∷ itemsOf (drop next p)
+  onward =
+      let d : at + (8 + itemIn q .bits / 8) ≡ at + 8 + r .len = omega (arith, l .len) in
+      items-more q (omega (arith, left))
+      ∙ ap (λ (is : List ℕ). itemIn q ∷ itemsOf is) (drop-drop (8 + itemIn q .bits / 8) at p ∙ ap (λ (n : ℕ). drop n p) d)
+
+  all-more : itemsOf p ≡ (w .done ++ (i ∷ [])) ++ itemsOf (drop next p)
+  all-more = w .all ∙ ap (λ (is : List Item). w .done ++ is) onward ∙ sym (append-snoc (w .done) i (itemsOf (drop next p)))
+
+  pub at-bad : r .bad ≡ true → someBad (itemsOf p) ≡ true
+  unfolding someBad
+  at-bad e =
+      let b : isBad i ≡ true = sym (l .bad) ∙ e in
+      ap someBad (w .all ∙ ap (λ (is : List Item). w .done ++ is) onward)
+      ∙ bad-append (w .done) (i ∷ itemsOf (drop next p)) ∙ rw (w .sound, b)
+
+  module _ (e : r .bad ≡ false) where
+    sound-i : SoundItem i
+    sound-i = sound-item i (sym (l .bad) ∙ e)
+
+    pub inside : at + 8 + r .len ≤ length p
+    inside = omega (arith, l .len, left, sound-i .there, value-length q)
+
+    sound-more : someBad (w .done ++ (i ∷ [])) ≡ false
+    unfolding someBad
+    sound-more = let b : isBad i ≡ false = sym (l .bad) ∙ e in bad-append (w .done) (i ∷ []) ∙ rw (w .sound, b)
+
+    value-at : i .value ≡ take (r .len) (drop (at + 8) p)
+    unfolding itemIn
+    value-at =
+        ap (λ (n : ℕ). take n (drop 8 (drop at p))) (sym (l .len)) ∙ ap (take (r .len)) (drop-drop 8 at p)
+
+    module _ (t m : ℕ) (et : t ≡ moreBy (getD slots (r .part) noSlot .tally)) (em : m ≡ max highest (numberBy (r .part))) where
+      slot : Slot
+      slot = record { tally = t; start = at + 8; len = r .len }
+
+      -- the part's own slot
+      values-same : valuesOf (r .part) (w .done ++ (i ∷ [])) ≡ valuesOf (r .part) (w .done) ++ (i .value ∷ [])
+      unfolding valuesOf
+      values-same = values-append (r .part) (w .done) (i ∷ []) ∙ rw (eq-eqb (partOf (i .name)) (r .part) (sym (l .part)))
+
+      tally-same : t ≡ tallyOf (valuesOf (r .part) (w .done ++ (i ∷ [])))
+      tally-same =
+          et ∙ ap moreBy (w .noted .each (r .part) (omega (arith, l .small)) .tally)
+          ∙ tally-more (valuesOf (r .part) (w .done)) (i .value) ∙ ap tallyOf (sym values-same)
+
+      holds-same : Holds p (r .part) (valuesOf (r .part) (w .done ++ (i ∷ []))) slot
+      unfolding slot
+      holds-same =
+          record {
+            tally = tally-same;
+            inside = inside;
+            one =
+                λ z. values-same
+                ∙ one-only (valuesOf (r .part) (w .done)) (i .value) (sym (tally-same ∙ ap tallyOf values-same) ∙ z)
+                ∙ ap (λ (v : List ℕ). v ∷ []) value-at;
+            whole = λ z k. whole-i k;
+          }
+        where
+          whole-i : isStream (r .part) ≡ true → 3 + 8 * ((r .len - 3) / 8) ≡ r .len
+          whole-i k =
+              let z = sound-i .stream (ap isStream (sym (l .part)) ∙ k) in
+              let n = (i .bits - 24) / 64 in
+              let b : i .bits ≡ n * 64 + 24 = omega (arith, z .0, z .1, div-add-mod' (i .bits - 24) 64) in
+              let f : r .len ≡ 3 + n * 8 = omega (arith, b, l .len) in
+              omega (arith, f)
+
+      holds-other : (k : ℕ) → k < 66 → (k ≡ r .part → ⊥) → Holds p k (valuesOf k (w .done ++ (i ∷ []))) (getD (set slots (r .part) slot) k noSlot)
+      unfolding valuesOf
+      holds-other k b n =
+          let y : valuesOf k (w .done ++ (i ∷ [])) ≡ valuesOf k (w .done) =
+          values-append k (w .done) (i ∷ []) ∙ (rw (ne-eqb (partOf (i .name)) k (λ z. n (sym (l .part ∙ z)))) (append-nil (valuesOf k (w .done)))) in
+          rw (y, getD-set-other slots (r .part) k slot noSlot n) (w .noted .each k b)
+
+      holds-more : (k : ℕ) → k < 66 → Holds p k (valuesOf k (w .done ++ (i ∷ []))) (getD (set slots (r .part) slot) k noSlot)
+      holds-more k b = go (eqb k (r .part)) refl
+        where
+          go : (x : Bool) → eqb k (r .part) ≡ x → Holds p k (valuesOf k (w .done ++ (i ∷ []))) (getD (set slots (r .part) slot) k noSlot)
+          go true z =
+              rw (eqb-true k (r .part) z, getD-set-same slots (r .part) slot noSlot (omega (arith, l .small, w .noted .count))) holds-same
+          go false z = holds-other k b (eqb-false k (r .part) z)
+
+      pub midway-more : Midway p (set slots (r .part) (record { tally = t; start = at + 8; len = r .len })) m (at + 8 + r .len)
+      unfolding slot highestIn
+      midway-more =
+          record {
+            within = inside;
+            done = w .done ++ (i ∷ []);
+            all = all-more;
+            sound = sound-more;
+            noted = record { count = length-set slots (r .part) slot ∙ w .noted .count; each = holds-more };
+            high =
+                let z : numberBy (partOf (i .name)) ≡ numberBy (r .part) = ap numberBy (sym (l .part)) in
+                omega (arith, em, w .high, highest-append (w .done) (i ∷ []), z);
+          }
+
+  pub pass-broken : r .bad ≡ true → Passed p (record { broken = true; highest = highest; slots = slots })
+  pass-broken e = record { broken = sym (at-bad e); noted = λ z. absurd (clash z); high = λ z. absurd (clash z) }
+
+pub pass-done : (p : List ℕ) (slots : List Slot) (highest at : ℕ) → Midway p slots highest at → length p - at < 8 → Passed p (record { broken = false; highest = highest; slots = slots })
+pass-done p slots highest at w h =
+    let d = length-drop at p in
+    let y : itemsOf p ≡ w .done = w .all ∙ ap (λ (is : List Item). w .done ++ is) (items-none (drop at p) (omega arith)) ∙ append-nil (w .done) in
+    record {
+      broken = sym (ap someBad y ∙ w .sound);
+      noted = λ z. rw y (w .noted);
+      high = λ z. w .high ∙ ap highestIn (sym y);
+    }
+
+pub take-rest : (p : List ℕ) (at : ℕ) → take (length p - at) (drop at p) ≡ drop at p
+take-rest p at = let d = length-drop at p in take-all (length p - at) (drop at p) (omega arith)
