@@ -195,3 +195,41 @@ pass-done p slots highest at w h =
 
 pub take-rest : (p : List ℕ) (at : ℕ) → take (length p - at) (drop at p) ≡ drop at p
 take-rest p at = let d = length-drop at p in take-all (length p - at) (drop at p) (omega arith)
+
+-- ---- a value: taken no further than the packet goes
+nothing : (l : List ℕ) → length l ≡ 0 → l ≡ []
+nothing [] e = refl
+nothing (x ∷ l) e = absurd (omega (arith, e))
+
+drop-min : (p : List ℕ) (n : ℕ) → drop (min n (length p)) p ≡ drop n p
+drop-min p n = go (ltb n (length p)) refl
+  where
+    go : (b : Bool) → ltb n (length p) ≡ b → drop (min n (length p)) p ≡ drop n p
+    go true e =
+        let h = ltb-true n (length p) e in
+        let m : min n (length p) ≡ n = omega arith in
+        ap (λ (k : ℕ). drop k p) m
+    go false e =
+        let h = ltb-false n (length p) e in
+        let d = length-drop (min n (length p)) p in
+        let k = length-drop n p in
+        nothing (drop (min n (length p)) p) (omega arith) ∙ sym (nothing (drop n p) (omega arith))
+
+take-min : (l : List ℕ) (n : ℕ) → take (min n (length l)) l ≡ take n l
+take-min l n = go (ltb n (length l)) refl
+  where
+    go : (b : Bool) → ltb n (length l) ≡ b → take (min n (length l)) l ≡ take n l
+    go true e =
+        let h = ltb-true n (length l) e in
+        let m : min n (length l) ≡ n = omega arith in
+        ap (λ (k : ℕ). take k l) m
+    go false e =
+        let h = ltb-false n (length l) e in
+        take-all (min n (length l)) l (omega arith) ∙ sym (take-all n l h)
+
+pub value-taken : (p : List ℕ) (start len s l : ℕ) → s ≡ min start (length p) → l ≡ min len (length p - s) → take (s + l - s) (drop s p) ≡ take len (drop start p)
+value-taken p start len s l es el =
+    let n : s + l - s ≡ min len (length (drop s p)) = omega (arith, el, length-drop s p) in
+    ap (λ (k : ℕ). take k (drop s p)) n
+    ∙ take-min (drop s p) len
+    ∙ ap (take len) (ap (λ (k : ℕ). drop k p) es ∙ drop-min p start)

@@ -1,7 +1,7 @@
 // One pass over the tag items of an EDI packet: where the value of management and of each stream lies.
 ghost use mathlib.Core.Path.{_≡_};
-ghost use Prim.Native.Nat.{_+_, _≤_, max};
-ghost use lib.ListN.{length, drop, replicate};
+ghost use Prim.Native.Nat.{_+_, _≤_, min, max};
+ghost use lib.ListN.{length, take, drop, replicate};
 ghost use Rattle.items.specs.TagItems.{partOf, numberBy};
 ghost use Rattle.items.specs.Slots.{noSlot, moreBy, badBy, LooksAt, Passed};
 
@@ -150,4 +150,19 @@ pub fn pass(packet: &[u8]) -> Notes
         highest,
         slots,
     }
+}
+
+fn less(a: usize, b: usize) -> usize
+    ensures { λ r. ⌜ r ≡ min a b ⌝ }
+{
+    if a < b { a } else { b }
+}
+
+// The bytes of a slot's value, or what there is of them in the packet.
+pub fn value(packet: &[u8], slot: Slot) -> &[u8]
+    ensures { λ r. ⌜ now r ≡ take (slot .len) (drop (slot .start) (now (packet .entry))) ⌝ }
+{
+    let start = less(slot.start, packet.len());
+    let end = start + less(slot.len, packet.len() - start);
+    &packet[start..end]
 }
