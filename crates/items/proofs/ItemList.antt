@@ -3,15 +3,16 @@
 use mathlib.Core.Bool.{Bool, true, false, not, _&&_, _||_}
 use mathlib.Core.List.{List, [], _∷_, _++_}
 use mathlib.Core.Path.{_≡_, refl, sym, ap, _∙_}
-use Prim.Native.Nat.{ℕ, zero, suc, _+_, _-_, _/_, _%_, _≤_, _<_, max}
+use Prim.Native.Nat.{ℕ, zero, suc, _+_, _-_, _*_, _/_, _%_, _≤_, _<_, max}
+use native.Mathlib.Nat.{div-add-mod'}
 use native.Mathlib.Omega.{arith}
 use borrow.Author.Tests.{lt-ltb, le-ltb, ltb-true, ltb-false, eqb-true, not-false}
 use lib.Dec.{eqb, ltb}
-use lib.ListN.{length, drop, length-drop}
+use lib.ListN.{length, getD, take, drop, length-take, length-drop}
 use Rattle.octets.specs.Choice.{pick}
 use Rattle.octets.specs.Words.{wordAt}
 use Rattle.octets.proofs.Deciding.{or-assoc, neither}
-use Rattle.items.specs.TagItems.{Item, itemIn, itemsTo, itemsOf, partOf, isStream, isBad, someBad, valuesOf, highestIn}
+use Rattle.items.specs.TagItems.{Item, itemIn, itemsTo, itemsOf, partOf, isStream, isBad, someBad, valuesOf, valueOf, highestIn}
 
 -- ---- the list of items does not depend on how many are allowed for
 none-to : (n : ℕ) (q : List ℕ) → length q < 8 → itemsTo n q ≡ []
@@ -104,3 +105,45 @@ sound-item i e =
       stream =
           λ h. let w = words _ _ _ (q .1) h in (ltb-false _ _ (w .0), eqb-true _ _ (w .1));
     }
+
+-- ---- a stream's value is 3 bytes and words of 8
+abbrev Trimmed : List Item → Type 0
+Trimmed [] = Unit {0}
+Trimmed (i ∷ is) = (length (i .value) ≤ i .bits / 8) × Trimmed is
+
+trimmed-to : (n : ℕ) (p : List ℕ) → Trimmed (itemsTo n p)
+unfolding itemsTo itemIn
+trimmed-to zero p = tt
+trimmed-to (suc n) p = go (ltb (length p) 8) (trimmed-to n (drop (8 + wordAt p 4 / 8) p))
+  where
+    go : (b : Bool) → Trimmed (itemsTo n (drop (8 + wordAt p 4 / 8) p)) → Trimmed (pick b [] (itemIn p ∷ itemsTo n (drop (8 + wordAt p 4 / 8) p)))
+    go true t = tt
+    go false t = (omega (arith, length-take (wordAt p 4 / 8) (drop 8 p)), t)
+
+abbrev pub Words : List ℕ → Type 0
+Words v = 3 + 8 * ((length v - 3) / 8) ≡ length v
+
+words-one : (i : Item) → isBad i ≡ false → length (i .value) ≤ i .bits / 8 → isStream (partOf (i .name)) ≡ true → Words (i .value)
+words-one i b t s =
+    let y = sound-item i b in
+    let z = y .stream s in
+    let n = (i .bits - 24) / 64 in
+    let e : i .bits ≡ n * 64 + 24 = omega (arith, z .0, z .1, div-add-mod' (i .bits - 24) 64) in
+    let l : length (i .value) ≡ 3 + n * 8 = omega (arith, e, t, y .there) in
+    omega (arith, l)
+
+stream-words : (k : ℕ) → isStream k ≡ true → (is : List Item) → Trimmed is → someBad is ≡ false → 1 ≤ length (valuesOf k is) → Words (valueOf k is)
+unfolding valueOf valuesOf someBad
+stream-words k s [] t b h = absurd (omega arith)
+stream-words k s (i ∷ is) t b h =
+    let n = neither (isBad i) (someBad is) b in
+    go (eqb (partOf (i .name)) k) refl (n .0) (λ l. stream-words k s is (t .1) (n .1) l) h
+  where
+    go : (x : Bool) → eqb (partOf (i .name)) k ≡ x → isBad i ≡ false → (1 ≤ length (valuesOf k is) → Words (getD (valuesOf k is) 0 []))
+        → 1 ≤ length (pick x (i .value ∷ valuesOf k is) (valuesOf k is)) → Words (getD (pick x (i .value ∷ valuesOf k is) (valuesOf k is)) 0 [])
+    go true e n later l = words-one i n (t .0) (ap isStream (eqb-true (partOf (i .name)) k e) ∙ s)
+    go false e n later l = later l
+
+pub value-words : (p : List ℕ) (k : ℕ) → isStream k ≡ true → someBad (itemsOf p) ≡ false → 1 ≤ length (valuesOf k (itemsOf p)) → Words (valueOf k (itemsOf p))
+unfolding itemsOf
+value-words p k s b h = stream-words k s (itemsTo (length p) p) (trimmed-to (length p) p) b h

@@ -3,8 +3,7 @@
 use mathlib.Core.Bool.{Bool, true, false}
 use mathlib.Core.List.{List, [], _∷_, _++_, append-nil}
 use mathlib.Core.Path.{_≡_, refl, sym, ap, _∙_}
-use Prim.Native.Nat.{ℕ, _+_, _-_, _*_, _/_, _≤_, _<_, min, max}
-use native.Mathlib.Nat.{div-add-mod'}
+use Prim.Native.Nat.{ℕ, _+_, _-_, _/_, _≤_, _<_, min, max}
 use native.Mathlib.Omega.{arith}
 use borrow.Author.Tests.{eq-eqb, ne-eqb, lt-ltb, le-ltb, ltb-true, ltb-false, eqb-true, eqb-false}
 use lib.Dec.{eqb, ltb}
@@ -13,7 +12,7 @@ use lib.Seq.{getD-set-same, getD-set-other, drop-drop, append-snoc, take-all}
 use Rattle.octets.specs.Words.{wordAt}
 use Rattle.items.specs.declared.Slot.{Slot}
 use Rattle.items.specs.declared.Seen.{Seen}
-use Rattle.items.specs.TagItems.{Item, itemIn, itemsOf, partOf, isStream, isBad, someBad, valuesOf, numberBy, highestIn}
+use Rattle.items.specs.TagItems.{Item, itemIn, itemsOf, partOf, isBad, someBad, valuesOf, numberBy, highestIn}
 use Rattle.items.specs.Slots.{noSlot, tallyOf, moreBy, badBy, LooksAt, Holds, Noted, Passed}
 use Rattle.items.proofs.ItemList.{items-none, items-more, bad-append, values-append, highest-append, clash, SoundItem, sound-item}
 
@@ -46,8 +45,8 @@ pub record Midway (p : List ℕ) (slots : List Slot) (highest at : ℕ) : Type 0
 never : {A : Type 0} → _≡_ {A = ℕ} 0 1 → A
 never e = absurd (omega arith)
 
-holds-none : (p : List ℕ) (k : ℕ) → Holds p k [] noSlot
-holds-none p k = record { tally = refl; inside = omega arith; one = λ e. never e; whole = λ e. never e }
+holds-none : (p : List ℕ) → Holds p [] noSlot
+holds-none p = record { tally = refl; inside = omega arith; one = λ e. never e }
 
 pub midway-start : (p : List ℕ) → Midway p (replicate 66 noSlot) 0 0
 unfolding someBad valuesOf highestIn
@@ -57,7 +56,7 @@ midway-start p =
       done = [];
       all = refl;
       sound = refl;
-      noted = record { count = refl; each = λ k h. rw (getD-replicate 66 k noSlot noSlot h) (holds-none p k) };
+      noted = record { count = refl; each = λ k h. rw (getD-replicate 66 k noSlot noSlot h) (holds-none p) };
       high = refl;
     }
 
@@ -130,7 +129,7 @@ module _ (p : List ℕ) (slots : List Slot) (highest at : ℕ) (w : Midway p slo
           et ∙ ap moreBy (w .noted .each (r .part) (omega (arith, l .small)) .tally)
           ∙ tally-more (valuesOf (r .part) (w .done)) (i .value) ∙ ap tallyOf (sym values-same)
 
-      holds-same : Holds p (r .part) (valuesOf (r .part) (w .done ++ (i ∷ []))) slot
+      holds-same : Holds p (valuesOf (r .part) (w .done ++ (i ∷ []))) slot
       unfolding slot
       holds-same =
           record {
@@ -140,28 +139,19 @@ module _ (p : List ℕ) (slots : List Slot) (highest at : ℕ) (w : Midway p slo
                 λ z. values-same
                 ∙ one-only (valuesOf (r .part) (w .done)) (i .value) (sym (tally-same ∙ ap tallyOf values-same) ∙ z)
                 ∙ ap (λ (v : List ℕ). v ∷ []) value-at;
-            whole = λ z k. whole-i k;
           }
-        where
-          whole-i : isStream (r .part) ≡ true → 3 + 8 * ((r .len - 3) / 8) ≡ r .len
-          whole-i k =
-              let z = sound-i .stream (ap isStream (sym (l .part)) ∙ k) in
-              let n = (i .bits - 24) / 64 in
-              let b : i .bits ≡ n * 64 + 24 = omega (arith, z .0, z .1, div-add-mod' (i .bits - 24) 64) in
-              let f : r .len ≡ 3 + n * 8 = omega (arith, b, l .len) in
-              omega (arith, f)
 
-      holds-other : (k : ℕ) → k < 66 → (k ≡ r .part → ⊥) → Holds p k (valuesOf k (w .done ++ (i ∷ []))) (getD (set slots (r .part) slot) k noSlot)
+      holds-other : (k : ℕ) → k < 66 → (k ≡ r .part → ⊥) → Holds p (valuesOf k (w .done ++ (i ∷ []))) (getD (set slots (r .part) slot) k noSlot)
       unfolding valuesOf
       holds-other k b n =
           let y : valuesOf k (w .done ++ (i ∷ [])) ≡ valuesOf k (w .done) =
           values-append k (w .done) (i ∷ []) ∙ (rw (ne-eqb (partOf (i .name)) k (λ z. n (sym (l .part ∙ z)))) (append-nil (valuesOf k (w .done)))) in
           rw (y, getD-set-other slots (r .part) k slot noSlot n) (w .noted .each k b)
 
-      holds-more : (k : ℕ) → k < 66 → Holds p k (valuesOf k (w .done ++ (i ∷ []))) (getD (set slots (r .part) slot) k noSlot)
+      holds-more : (k : ℕ) → k < 66 → Holds p (valuesOf k (w .done ++ (i ∷ []))) (getD (set slots (r .part) slot) k noSlot)
       holds-more k b = go (eqb k (r .part)) refl
         where
-          go : (x : Bool) → eqb k (r .part) ≡ x → Holds p k (valuesOf k (w .done ++ (i ∷ []))) (getD (set slots (r .part) slot) k noSlot)
+          go : (x : Bool) → eqb k (r .part) ≡ x → Holds p (valuesOf k (w .done ++ (i ∷ []))) (getD (set slots (r .part) slot) k noSlot)
           go true z =
               rw (eqb-true k (r .part) z, getD-set-same slots (r .part) slot noSlot (omega (arith, l .small, w .noted .count))) holds-same
           go false z = holds-other k b (eqb-false k (r .part) z)

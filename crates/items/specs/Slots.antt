@@ -3,7 +3,7 @@
 use mathlib.Core.Bool.{Bool, false, true, not, _&&_, _||_}
 use mathlib.Core.List.{List, [], _∷_}
 use mathlib.Core.Path.{_≡_}
-use Prim.Native.Nat.{ℕ, _+_, _-_, _*_, _/_, _%_, _≤_, _<_}
+use Prim.Native.Nat.{ℕ, _+_, _-_, _/_, _%_, _≤_, _<_}
 use lib.Dec.{eqb, ltb}
 use lib.ListN.{length, getD, take, drop}
 use Rattle.octets.specs.Choice.{pick}
@@ -37,16 +37,15 @@ pub record LooksAt (q : List ℕ) (r : Seen) : Type 0 where
   pub len : r .len ≡ itemIn q .bits / 8
   pub bad : r .bad ≡ isBad (itemIn q)
 
--- the slot of a name holds what is met of it in p: how many values; if it is one, the value's place; a stream's value is 3 bytes and words of 8
-pub record Holds (p : List ℕ) (part : ℕ) (vs : List (List ℕ)) (s : Slot) : Type 0 where
+-- the slot of a name holds what is met of it in p: how many values; if it is one, the value's place
+pub record Holds (p : List ℕ) (vs : List (List ℕ)) (s : Slot) : Type 0 where
   pub tally : s .tally ≡ tallyOf vs
   pub inside : s .start + s .len ≤ length p
   pub one : s .tally ≡ 1 → vs ≡ take (s .len) (drop (s .start) p) ∷ []
-  pub whole : s .tally ≡ 1 → isStream part ≡ true → 3 + 8 * ((s .len - 3) / 8) ≡ s .len
 
 pub record Noted (p : List ℕ) (is : List Item) (slots : List Slot) : Type 0 where
   pub count : length slots ≡ 66
-  pub each : (k : ℕ) → k < 66 → Holds p k (valuesOf k is) (getD slots k noSlot)
+  pub each : (k : ℕ) → k < 66 → Holds p (valuesOf k is) (getD slots k noSlot)
 
 -- the whole pass: some item is bad, or the slots and the highest number are those of the items
 pub record Passed (p : List ℕ) (r : Notes) : Type 0 where

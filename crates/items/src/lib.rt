@@ -158,11 +158,11 @@ fn less(a: usize, b: usize) -> usize
     if a < b { a } else { b }
 }
 
-// The bytes of a slot's value, or what there is of them in the packet.
-pub fn value(packet: &[u8], slot: Slot) -> &[u8]
-    ensures { λ r. ⌜ now r ≡ take (slot .len) (drop (slot .start) (now (packet .entry))) ⌝ }
+// The bytes of a value by its place and length, or what there is of them.
+pub fn value(bytes: &[u8], start: usize, len: usize) -> &[u8]
+    ensures { λ r. ⌜ now r ≡ take len (drop start (now (bytes .entry))) ⌝ }
 {
-    let start = less(slot.start, packet.len());
-    let end = start + less(slot.len, packet.len() - start);
-    &packet[start..end]
+    let from = less(start, bytes.len());
+    let end = from + less(len, bytes.len() - from);
+    &bytes[from..end]
 }

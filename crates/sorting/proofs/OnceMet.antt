@@ -35,12 +35,12 @@ highest-small [] = omega arith
 highest-small (i ∷ is) = omega (arith, number-small (partOf (i .name)), highest-small is)
 
 -- ---- a slot of one value
-tally-one : (vs : List (List ℕ)) → eqb (tallyOf vs) 1 ≡ eqb (length vs) 1
+pub tally-one : (vs : List (List ℕ)) → eqb (tallyOf vs) 1 ≡ eqb (length vs) 1
 tally-one [] = refl
 tally-one (v ∷ []) = refl
 tally-one (v ∷ w ∷ vs) = sym (ne-eqb (length (v ∷ w ∷ vs)) 1 (λ (e : length (v ∷ w ∷ vs) ≡ 1). omega (arith, e)))
 
-pub slot-value : (p : List ℕ) (k : ℕ) (is : List Item) (s : Slot) → Holds p k (valuesOf k is) s → s .tally ≡ 1 → take (s .len) (drop (s .start) p) ≡ valueOf k is
+pub slot-value : (p : List ℕ) (k : ℕ) (is : List Item) (s : Slot) → Holds p (valuesOf k is) s → s .tally ≡ 1 → take (s .len) (drop (s .start) p) ≡ valueOf k is
 unfolding valueOf
 slot-value p k is s y e = sym (ap (λ (vs : List (List ℕ)). getD vs 0 []) (y .one e))
 
@@ -56,7 +56,7 @@ once-is p slots is y (suc n) h =
     (ap (λ (t : ℕ). eqb t 1) (y .each (suc n) (omega arith) .tally) ∙ tally-one (valuesOf (suc n) is))
 
 -- ---- management
-module _ (p : List ℕ) (is : List Item) (s : Slot) (y : Holds p 0 (valuesOf 0 is) s) where
+module _ (p : List ℕ) (is : List Item) (s : Slot) (y : Holds p (valuesOf 0 is) s) where
   counted : eqb (length (valuesOf 0 is)) 1 ≡ eqb (s .tally) 1
   counted = sym (tally-one (valuesOf 0 is)) ∙ ap (λ (t : ℕ). eqb t 1) (sym (y .tally))
 

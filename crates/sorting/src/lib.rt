@@ -20,21 +20,21 @@ pub struct Sorted {
 
 // Of the management item's slot.
 fn managed(packet: &[u8], slot: Slot) -> bool
-    requires { ⌜ Holds (now packet) 0 (valuesOf 0 (itemsOf (now packet))) slot ⌝ }
+    requires { ⌜ Holds (now packet) (valuesOf 0 (itemsOf (now packet))) slot ⌝ }
     ensures { λ r. ⌜ r ≡ isManaged (itemsOf (now (packet .entry))) ⌝ }
 {
     if slot.tally == 1 {
-        return tags::called(items::value(packet, slot));
+        return tags::called(items::value(packet, slot.start, slot.len));
     }
     false
 }
 
 // The level by the status byte of the slot's value.
 fn level(packet: &[u8], slot: Slot) -> u8
-    requires { ⌜ (Holds (now packet) 0 (valuesOf 0 (itemsOf (now packet))) slot) × (slot .tally ≡ 1) ⌝ }
+    requires { ⌜ (Holds (now packet) (valuesOf 0 (itemsOf (now packet))) slot) × (slot .tally ≡ 1) ⌝ }
     ensures { λ r. ⌜ r ≡ levelIn (valueOf 0 (itemsOf (now (packet .entry)))) ⌝ }
 {
-    let head = tags::deti(items::value(packet, slot));
+    let head = tags::deti(items::value(packet, slot.start, slot.len));
     meaning::level(head.stat)
 }
 
