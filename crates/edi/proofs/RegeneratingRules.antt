@@ -56,6 +56,10 @@ pub fields-table : (is : List Item) (s : Bool) (n : ℕ) → n ≡ highestIn is 
 unfolding fieldsFor fieldsBy
 fields-table is s n e x q = ap (λ (y : Fields). y .table) q ∙ ap (λ (k : ℕ). tableBy (entriesTo is k)) (sym e)
 
+pub ficl-as : (is : List Item) (s : Bool) → Rattle.frame.specs.Writing.ficlIn (fieldsFor is s) ≡ ficlIn (valueOf 0 is)
+unfolding fieldsFor fieldsBy
+ficl-as is s = ap (λ (k : ℕ). ficlBy k (midIn (valueOf 0 is))) (digit-of (ficfIn (valueOf 0 is)) (ficf-bit (valueOf 0 is)))
+
 -- ---- a main stream that is too long is refused by a rule before 11, so its bytes do not matter
 abbrev earlier : Fields → ℕ → List Rule
 earlier x out =
@@ -101,15 +105,11 @@ module _ (p : List ℕ) (slots : List Slot) (n : ℕ) (y : Kept p slots n) where
       ek ∙ ap (λ (u : List Stream). stlTotal (take n u)) e ∙ ap stlTotal (table-entries is n) ∙ ap (λ (j : ℕ). stlTotal (entriesTo is j)) (y .high) in
       omega (arith, ef, g, main-long p z)
 
-  ficl-as : (s : Bool) → Rattle.frame.specs.Writing.ficlIn (fieldsFor is s) ≡ ficlIn (valueOf 0 is)
-  unfolding fieldsFor fieldsBy
-  ficl-as s = ap (λ (k : ℕ). ficlBy k (midIn (valueOf 0 is))) (digit-of (ficfIn (valueOf 0 is)) (ficf-bit (valueOf 0 is)))
-
   fl-as : (s : Bool) → 6124 < length (mainFor is) → 1532 < flIn (fieldsFor is s)
   unfolding flIn
   fl-as s h =
       let e = ap stlTotal (fields-entries is s) in
-      omega (arith, h, e, ficl-as s, main-long p z)
+      omega (arith, h, e, ficl-as is s, main-long p z)
 
   pub refused-as : (s : Bool) (x : Fields) → x ≡ fieldsFor is s → 6124 < length (mainFor is) → (was left : List ℕ) (r : ℕ) → Writes x [] was left r → Writes (fieldsFor is s) (mainFor is) was left r
   refused-as s x e h was left r w = too-long (fieldsFor is s) (fl-as s h) [] (mainFor is) was left r (subst (λ (u : Fields). Writes u [] was left r) e w)
