@@ -1,1 +1,4 @@
 pub mod Regenerated
+pub mod ItemsBack
+pub mod ValuesBack
+pub mod SameFrame

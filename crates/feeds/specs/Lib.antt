@@ -1,1 +1,2 @@
 pub mod FromItems
+pub mod Packed
