@@ -22,9 +22,7 @@ use Rattle.frame.specs.Answers.{digit, tableBy}
 use Rattle.frame.specs.Writing.{entriesOf, flIn, someWider, streamValues, someStreamWider, wider, writingRulesOf, writingRefusalOf, frameIn, writtenOf, Writes}
 use Rattle.frame.proofs.FirstRule.{none-hold, first-zero, first-found}
 use Rattle.frame.proofs.Headers.{digit-of}
-use Rattle.items.specs.declared.Slot.{Slot}
 use Rattle.items.specs.TagItems.{Item, itemsOf, valueOf, highestIn}
-use Rattle.items.specs.Slots.{noSlot}
 use Rattle.items.proofs.ItemList.{clash}
 use Rattle.tags.specs.TagValues.{ficfIn, midIn, ficIn, ficlIn, ficPlace, entryBy, entryIn, fieldsBy}
 use Rattle.tags.proofs.TagLaws.{ficf-bit, fic-long}
@@ -35,8 +33,8 @@ use Rattle.edi.specs.Regenerating.{entriesTo, dataTo, fieldsFor, mainFor
 use Rattle.edi.specs.EdiClauses.{longTo, overRules, Kept}
 use Rattle.edi.proofs.StreamsKept.{long-more, entries-more, entries-length, data-words, called, main-long, kept-clear, stream-at}
 
-pub sorted-kept : (p : List ℕ) (r : Sorted) → Sorts p r → r .number ≡ 0 → Kept p (r .slots) (r .highest)
-sorted-kept p r y e = record { none = sym (y .number) ∙ e; noted = y .noted e; high = y .high e }
+pub sorted-kept : (p : List ℕ) (r : Sorted) → Sorts p r → r .number ≡ 0 → Kept p (r .starts) (r .lens) (r .highest)
+sorted-kept p r y e = record { none = sym (y .number) ∙ e; placed = y .placed e; high = y .high e }
 
 -- ---- the fields
 pub fields-as : (is : List Item) (s : Bool) (m : List ℕ) (n : ℕ) (t : List Stream) → m ≡ valueOf 0 is → n ≡ highestIn is → t ≡ tableBy (entriesTo is n) → fieldsBy m s n t ≡ fieldsFor is s
@@ -51,10 +49,6 @@ table-entries is n = take-at (entriesTo is n) _ n (entries-length is n)
 pub fields-entries : (is : List Item) (s : Bool) → entriesOf (fieldsFor is s) ≡ entriesTo is (highestIn is)
 unfolding fieldsFor fieldsBy
 fields-entries is s = table-entries is (highestIn is)
-
-pub fields-table : (is : List Item) (s : Bool) (n : ℕ) → n ≡ highestIn is → (x : Fields) → x ≡ fieldsFor is s → x .table ≡ tableBy (entriesTo is n)
-unfolding fieldsFor fieldsBy
-fields-table is s n e x q = ap (λ (y : Fields). y .table) q ∙ ap (λ (k : ℕ). tableBy (entriesTo is k)) (sym e)
 
 pub ficl-as : (is : List Item) (s : Bool) → Rattle.frame.specs.Writing.ficlIn (fieldsFor is s) ≡ ficlIn (valueOf 0 is)
 unfolding fieldsFor fieldsBy
@@ -91,19 +85,19 @@ too-long x h m k was left r w =
       output = w .output ∙ ap (λ (b : Bool). pick b (frameIn x m) was) (z (length m)) ∙ sym (ap (λ (b : Bool). pick b (frameIn x k) was) (z (length k)));
     }
 
-module _ (p : List ℕ) (slots : List Slot) (n : ℕ) (y : Kept p slots n) where
+module _ (p starts lens : List ℕ) (n : ℕ) (y : Kept p starts lens n) where
   abbrev is : List Item
   is = itemsOf p
 
   z : Clear (itemsOf p)
-  z = kept-clear p slots n y
+  z = kept-clear p starts lens n y
 
   -- the length, by the FIC's and the table's
-  pub length-as : (t : List Stream) → t ≡ tableBy (entriesTo is n) → (f k : ℕ) → f ≡ 4 * ficlIn (valueOf 0 is) → k ≡ stlTotal (take n t) → f + 8 * k ≡ length (mainFor is)
-  length-as t e f k ef ek =
-      let g : k ≡ stlTotal (entriesTo is (highestIn is)) =
-      ek ∙ ap (λ (u : List Stream). stlTotal (take n u)) e ∙ ap stlTotal (table-entries is n) ∙ ap (λ (j : ℕ). stlTotal (entriesTo is j)) (y .high) in
-      omega (arith, ef, g, main-long p z)
+  pub length-as : (m : List ℕ) → m ≡ valueOf 0 is → (t : List Stream) → t ≡ tableBy (entriesTo is n) → (k : ℕ) → k ≡ 4 * ficlIn m + 8 * stlTotal (take n t) → k ≡ length (mainFor is)
+  length-as m em t et k ek =
+      let g : stlTotal (take n t) ≡ stlTotal (entriesTo is (highestIn is)) =
+      ap (λ (u : List Stream). stlTotal (take n u)) et ∙ ap stlTotal (table-entries is n) ∙ ap (λ (j : ℕ). stlTotal (entriesTo is j)) (y .high) in
+      omega (arith, ek, ap ficlIn em, g, main-long p z)
 
   fl-as : (s : Bool) → 6124 < length (mainFor is) → 1532 < flIn (fieldsFor is s)
   unfolding flIn
@@ -202,31 +196,31 @@ stl-wider v h =
     let e = le-leb 1024 ((length v - 3) / 8) (omega arith) in
     rw (e, or-true, or-true, or-true)
 
-module _ (p : List ℕ) (slots : List Slot) (n : ℕ) (y : Kept p slots n) where
-  wider-more : (k : ℕ) → k < n → (longTo slots k ≡ true → someStreamWider (entriesTo (itemsOf p) k) ≡ true) → longTo slots (k + 1) ≡ true → someStreamWider (entriesTo (itemsOf p) (k + 1)) ≡ true
-  wider-more k h before e = go (longTo slots k) (ltb 8194 (getD slots (k + 1) noSlot .len)) refl refl (sym (long-more slots k) ∙ e)
+module _ (p starts lens : List ℕ) (n : ℕ) (y : Kept p starts lens n) where
+  wider-more : (k : ℕ) → k < n → (longTo lens k ≡ true → someStreamWider (entriesTo (itemsOf p) k) ≡ true) → longTo lens (k + 1) ≡ true → someStreamWider (entriesTo (itemsOf p) (k + 1)) ≡ true
+  wider-more k h before e = go (longTo lens k) (ltb 8194 (getD lens (k + 1) 0)) refl refl (sym (long-more lens k) ∙ e)
     where
       apart : someStreamWider (entriesTo (itemsOf p) (k + 1)) ≡ (someStreamWider (entriesTo (itemsOf p) k) || someStreamWider (entryIn (valueOf (k + 1) (itemsOf p)) ∷ []))
       apart = ap someStreamWider (entries-more (itemsOf p) k) ∙ wider-append (entriesTo (itemsOf p) k) (entryIn (valueOf (k + 1) (itemsOf p)) ∷ [])
 
-      go : (a b : Bool) → longTo slots k ≡ a → ltb 8194 (getD slots (k + 1) noSlot .len) ≡ b → (a || b) ≡ true → someStreamWider (entriesTo (itemsOf p) (k + 1)) ≡ true
+      go : (a b : Bool) → longTo lens k ≡ a → ltb 8194 (getD lens (k + 1) 0) ≡ b → (a || b) ≡ true → someStreamWider (entriesTo (itemsOf p) (k + 1)) ≡ true
       go true b ea eb e = apart ∙ ap (λ (w : Bool). w || someStreamWider (entryIn (valueOf (k + 1) (itemsOf p)) ∷ [])) (before ea)
       go false true ea eb e =
-          let a = stream-at p slots n y k h in
-          let l : 8194 < getD slots (k + 1) noSlot .len = ltb-true 8194 _ eb in
+          let a = stream-at p starts lens n y k h in
+          let l : 8194 < getD lens (k + 1) 0 = ltb-true 8194 _ eb in
           apart
           ∙ ap (λ (w : Bool). someStreamWider (entriesTo (itemsOf p) k) || w) (stl-wider (valueOf (k + 1) (itemsOf p)) (omega (arith, l, a .long)))
           ∙ or-true (someStreamWider (entriesTo (itemsOf p) k))
       go false false ea eb e = absurd (clash (sym e))
 
-  long-wider : (k : ℕ) → k ≤ n → longTo slots k ≡ true → someStreamWider (entriesTo (itemsOf p) k) ≡ true
+  long-wider : (k : ℕ) → k ≤ n → longTo lens k ≡ true → someStreamWider (entriesTo (itemsOf p) k) ≡ true
   unfolding longTo
   long-wider zero h e = absurd (clash (sym e))
   long-wider (suc k) h e =
-      subst (λ (m : ℕ). longTo slots m ≡ true → someStreamWider (entriesTo (itemsOf p) m) ≡ true) (add-one k)
+      subst (λ (m : ℕ). longTo lens m ≡ true → someStreamWider (entriesTo (itemsOf p) m) ≡ true) (add-one k)
       (wider-more k (omega arith) (long-wider k (omega arith))) e
 
-  pub long-fields : (s : Bool) → longTo slots n ≡ true → wider (fieldsFor (itemsOf p) s) ≡ true
+  pub long-fields : (s : Bool) → longTo lens n ≡ true → wider (fieldsFor (itemsOf p) s) ≡ true
   unfolding wider
   long-fields s e =
       let w : someStreamWider (entriesOf (fieldsFor (itemsOf p) s)) ≡ true =

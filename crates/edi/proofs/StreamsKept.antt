@@ -7,8 +7,8 @@ use Prim.Native.Nat.{ℕ, zero, suc, _+_, _-_, _*_, _/_, _≤_, _<_}
 use native.Mathlib.Nat.{zero-add}
 use native.Mathlib.Numerals.{add-one}
 use native.Mathlib.Omega.{arith}
-use borrow.Author.Tests.{eq-eqb, lt-ltb, le-leb, ltb-false, eqb-true, eqb-false}
-use lib.Dec.{eqb, ltb, leb}
+use borrow.Author.Tests.{lt-ltb, le-leb, ltb-false, eqb-true, eqb-false}
+use lib.Dec.{eqb, ltb}
 use lib.ListN.{length, getD, take, drop, length-drop, length-append}
 use lib.Seq.{length-take-le, take-all}
 use Rattle.octets.specs.Stores.{put}
@@ -16,20 +16,19 @@ use Rattle.octets.proofs.Deciding.{neither}
 use Rattle.octets.proofs.Storing.{put-none, put-chain, put-length}
 use Rattle.frame.specs.Frame.{stlTotal}
 use Rattle.frame.proofs.Streams.{total-append}
-use Rattle.items.specs.declared.Slot.{Slot}
 use Rattle.items.specs.TagItems.{Item, itemsOf, isStream, valuesOf, valueOf, highestIn, eachOnce}
-use Rattle.items.specs.Slots.{noSlot, tallyOf}
+use Rattle.items.specs.Slots.{ValueAt}
 use Rattle.items.proofs.ItemList.{both, Words, value-words}
 use Rattle.tags.specs.TagValues.{ficIn, ficlIn, lengthFor, entryBy, entryIn}
 use Rattle.tags.proofs.TagLaws.{fic-long}
-use Rattle.sorting.proofs.OnceMet.{highest-small, tally-one, slot-value, managed-one, managed-called, Clear, clear}
+use Rattle.sorting.proofs.OnceMet.{highest-small, managed-once, managed-called, Clear, clear}
 use Rattle.edi.specs.Regenerating.{entriesTo, dataTo, mainFor}
 use Rattle.edi.specs.EdiClauses.{longTo, Kept, Short}
 
 -- ---- one more
-pub long-more : (slots : List Slot) (n : ℕ) → longTo slots (n + 1) ≡ (longTo slots n || ltb 8194 (getD slots (n + 1) noSlot .len))
+pub long-more : (lens : List ℕ) (n : ℕ) → longTo lens (n + 1) ≡ (longTo lens n || ltb 8194 (getD lens (n + 1) 0))
 unfolding longTo
-long-more slots n = rw (add-one n)
+long-more lens n = rw (add-one n)
 
 pub entries-more : (is : List Item) (n : ℕ) → entriesTo is (n + 1) ≡ entriesTo is n ++ (entryIn (valueOf (n + 1) is) ∷ [])
 unfolding entriesTo
@@ -110,44 +109,39 @@ module _ (p : List ℕ) (z : Clear (itemsOf p)) where
       length-append (ficIn (valueOf 0 is)) (dataTo is (highestIn is))
       ∙ omega (arith, fic-long (valueOf 0 is) called, data-words (highestIn is) (omega arith))
 
--- ---- where the slots have them
-pub record StreamAt (p v : List ℕ) (s : Slot) : Type 0 where
-  pub inside : s .start + s .len ≤ length p
-  pub value : take (s .len) (drop (s .start) p) ≡ v
-  pub long : length v ≡ s .len
-  pub head : 3 ≤ s .len
+-- ---- where they lie
+pub record StreamAt (p v : List ℕ) (start len : ℕ) : Type 0 where
+  pub at : ValueAt p v start len
+  pub long : length v ≡ len
+  pub head : 3 ≤ len
 
-module _ (p : List ℕ) (slots : List Slot) (n : ℕ) (y : Kept p slots n) where
+module _ (p starts lens : List ℕ) (n : ℕ) (y : Kept p starts lens n) where
   pub kept-clear : Clear (itemsOf p)
   kept-clear = clear (itemsOf p) (y .none)
 
   pub kept-count : n ≤ 64
   kept-count = omega (arith, y .high, highest-small (itemsOf p))
 
-  pub stream-at : (k : ℕ) → k < n → StreamAt p (valueOf (k + 1) (itemsOf p)) (getD slots (k + 1) noSlot)
+  pub stream-at : (k : ℕ) → k < n → StreamAt p (valueOf (k + 1) (itemsOf p)) (getD starts (k + 1) 0) (getD lens (k + 1) 0)
   stream-at k h =
       let c = kept-count in
-      let s = getD slots (k + 1) noSlot in
-      let e = y .noted .each (k + 1) (omega arith) in
-      let o = one-value p kept-clear k (omega (arith, y .high)) in
-      let t = e .tally ∙ eqb-true (tallyOf (valuesOf (k + 1) (itemsOf p))) 1 (tally-one (valuesOf (k + 1) (itemsOf p)) ∙ eq-eqb _ 1 o) in
-      let v = slot-value p (k + 1) (itemsOf p) s e t in
-      let d = length-drop (s .start) p in
-      let l : length (valueOf (k + 1) (itemsOf p)) ≡ s .len = ap length (sym v) ∙ length-take-le (s .len) (drop (s .start) p) (omega (arith, e .inside)) in
-      record { inside = e .inside; value = v; long = l; head = omega (arith, l, stream-words p kept-clear k (omega (arith, y .high))) }
+      let start = getD starts (k + 1) 0 in
+      let len = getD lens (k + 1) 0 in
+      let a = y .placed (k + 1) (omega arith) (one-value p kept-clear k (omega (arith, y .high))) in
+      let d = length-drop start p in
+      let l : length (valueOf (k + 1) (itemsOf p)) ≡ len = ap length (sym (a .value)) ∙ length-take-le len (drop start p) (omega (arith, a .inside)) in
+      record { at = a; long = l; head = omega (arith, l, stream-words p kept-clear k (omega (arith, y .high))) }
 
-  pub management-at : take (getD slots 0 noSlot .len) (drop (getD slots 0 noSlot .start) p) ≡ valueOf 0 (itemsOf p)
-  management-at =
-      let e = y .noted .each 0 (omega arith) in
-      slot-value p 0 (itemsOf p) (getD slots 0 noSlot) e (managed-one p (itemsOf p) (getD slots 0 noSlot) e (kept-clear .managed))
+  pub management-at : take (getD lens 0 0) (drop (getD starts 0 0) p) ≡ valueOf 0 (itemsOf p)
+  management-at = y .placed 0 (omega arith) (managed-once (itemsOf p) (kept-clear .managed)) .value
 
-pub short-at : (slots : List Slot) (n : ℕ) → longTo slots n ≡ false → (k : ℕ) → k < n → getD slots (k + 1) noSlot .len ≤ 8194
+pub short-at : (lens : List ℕ) (n : ℕ) → longTo lens n ≡ false → (k : ℕ) → k < n → getD lens (k + 1) 0 ≤ 8194
 unfolding longTo
-short-at slots zero e k l = absurd (omega arith)
-short-at slots (suc n) e k l = go (eqb k n) refl (neither (longTo slots n) (ltb 8194 (getD slots (suc n) noSlot .len)) e) (short-at slots n)
+short-at lens zero e k l = absurd (omega arith)
+short-at lens (suc n) e k l = go (eqb k n) refl (neither (longTo lens n) (ltb 8194 (getD lens (suc n) 0)) e) (short-at lens n)
   where
-    go : (b : Bool) → eqb k n ≡ b → (longTo slots n ≡ false) × (ltb 8194 (getD slots (suc n) noSlot .len) ≡ false)
-        → (longTo slots n ≡ false → (j : ℕ) → j < n → getD slots (j + 1) noSlot .len ≤ 8194) → getD slots (k + 1) noSlot .len ≤ 8194
+    go : (b : Bool) → eqb k n ≡ b → (longTo lens n ≡ false) × (ltb 8194 (getD lens (suc n) 0) ≡ false)
+        → (longTo lens n ≡ false → (j : ℕ) → j < n → getD lens (j + 1) 0 ≤ 8194) → getD lens (k + 1) 0 ≤ 8194
     go true z u before = rw (eqb-true k n z, add-one n) (ltb-false 8194 _ (u .1))
     go false z u before = before (u .0) k (let w = eqb-false k n z in omega (arith, w))
 

@@ -10,10 +10,9 @@ use lib.Dec.{eqb, ltb}
 use lib.ListN.{length, getD, take, drop, set, replicate, length-take, length-drop, length-set, getD-replicate}
 use lib.Seq.{getD-set-same, getD-set-other, drop-drop, append-snoc, take-all}
 use Rattle.octets.specs.Words.{wordAt}
-use Rattle.items.specs.declared.Slot.{Slot}
 use Rattle.items.specs.declared.Seen.{Seen}
 use Rattle.items.specs.TagItems.{Item, itemIn, itemsOf, partOf, isBad, someBad, valuesOf, numberBy, highestIn}
-use Rattle.items.specs.Slots.{noSlot, tallyOf, moreBy, badBy, LooksAt, Holds, Noted, Passed}
+use Rattle.items.specs.Slots.{tallyOf, moreBy, badBy, LooksAt, Holds, Noted, Passed}
 use Rattle.items.proofs.ItemList.{items-none, items-more, bad-append, values-append, highest-append, clash, SoundItem, sound-item}
 
 -- ---- a look: a value that runs past is shorter than its length says
@@ -34,21 +33,21 @@ looked q r p s l b =
     record { part = p; small = s; len = l; bad = b ∙ rw (p, length-take, length-drop, ltb-min (wordAt q 4 / 8) (length q - 8)) }
 
 -- ---- midway: the items done, and those from `at` on
-pub record Midway (p : List ℕ) (slots : List Slot) (highest at : ℕ) : Type 0 where
+pub record Midway (p tallies starts lens : List ℕ) (highest at : ℕ) : Type 0 where
   pub within : at ≤ length p
   pub done : List Item
   pub all : itemsOf p ≡ done ++ itemsOf (drop at p)
   pub sound : someBad done ≡ false
-  pub noted : Noted p done slots
+  pub noted : Noted p done tallies starts lens
   pub high : highest ≡ highestIn done
 
 never : {A : Type 0} → _≡_ {A = ℕ} 0 1 → A
 never e = absurd (omega arith)
 
-holds-none : (p : List ℕ) → Holds p [] noSlot
-holds-none p = record { tally = refl; inside = omega arith; one = λ e. never e }
+holds-none : (p : List ℕ) → Holds p [] 0 0 0
+holds-none p = record { tallied = refl; inside = omega arith; one = λ e. never e }
 
-pub midway-start : (p : List ℕ) → Midway p (replicate 66 noSlot) 0 0
+pub midway-start : (p : List ℕ) → Midway p (replicate 66 0) (replicate 66 0) (replicate 66 0) 0 0
 unfolding someBad valuesOf highestIn
 midway-start p =
     record {
@@ -56,7 +55,7 @@ midway-start p =
       done = [];
       all = refl;
       sound = refl;
-      noted = record { count = refl; each = λ k h. rw (getD-replicate 66 k noSlot noSlot h) (holds-none p) };
+      noted = record { tallied = refl; started = refl; measured = refl; each = λ k h. rw (getD-replicate {A = ℕ} 66 k 0 0 h) (holds-none p) };
       high = refl;
     }
 
@@ -70,7 +69,7 @@ one-only [] v e = refl
 one-only (u ∷ []) v e = absurd (omega arith)
 one-only (u ∷ w ∷ vs) v e = absurd (omega arith)
 
-module _ (p : List ℕ) (slots : List Slot) (highest at : ℕ) (w : Midway p slots highest at) (h : 8 ≤ length p - at) (r : Seen) (l : LooksAt (drop at p) r) where
+module _ (p tallies starts lens : List ℕ) (highest at : ℕ) (w : Midway p tallies starts lens highest at) (h : 8 ≤ length p - at) (r : Seen) (l : LooksAt (drop at p) r) where
   abbrev q : List ℕ
   q = drop at p
 
@@ -115,25 +114,24 @@ module _ (p : List ℕ) (slots : List Slot) (highest at : ℕ) (w : Midway p slo
     value-at =
         ap (λ (n : ℕ). take n (drop 8 (drop at p))) (sym (l .len)) ∙ ap (take (r .len)) (drop-drop 8 at p)
 
-    module _ (t m : ℕ) (et : t ≡ moreBy (getD slots (r .part) noSlot .tally)) (em : m ≡ max highest (numberBy (r .part))) where
-      slot : Slot
-      slot = record { tally = t; start = at + 8; len = r .len }
+    module _ (t m : ℕ) (et : t ≡ moreBy (getD tallies (r .part) 0)) (em : m ≡ max highest (numberBy (r .part))) where
+      abbrev After : ℕ → Type 0
+      After k = Holds p (valuesOf k (w .done ++ (i ∷ []))) (getD (set tallies (r .part) t) k 0) (getD (set starts (r .part) (at + 8)) k 0) (getD (set lens (r .part) (r .len)) k 0)
 
-      -- the part's own slot
+      -- the part's own
       values-same : valuesOf (r .part) (w .done ++ (i ∷ [])) ≡ valuesOf (r .part) (w .done) ++ (i .value ∷ [])
       unfolding valuesOf
       values-same = values-append (r .part) (w .done) (i ∷ []) ∙ rw (eq-eqb (partOf (i .name)) (r .part) (sym (l .part)))
 
       tally-same : t ≡ tallyOf (valuesOf (r .part) (w .done ++ (i ∷ [])))
       tally-same =
-          et ∙ ap moreBy (w .noted .each (r .part) (omega (arith, l .small)) .tally)
+          et ∙ ap moreBy (w .noted .each (r .part) (omega (arith, l .small)) .tallied)
           ∙ tally-more (valuesOf (r .part) (w .done)) (i .value) ∙ ap tallyOf (sym values-same)
 
-      holds-same : Holds p (valuesOf (r .part) (w .done ++ (i ∷ []))) slot
-      unfolding slot
+      holds-same : Holds p (valuesOf (r .part) (w .done ++ (i ∷ []))) t (at + 8) (r .len)
       holds-same =
           record {
-            tally = tally-same;
+            tallied = tally-same;
             inside = inside;
             one =
                 λ z. values-same
@@ -141,40 +139,47 @@ module _ (p : List ℕ) (slots : List Slot) (highest at : ℕ) (w : Midway p slo
                 ∙ ap (λ (v : List ℕ). v ∷ []) value-at;
           }
 
-      holds-other : (k : ℕ) → k < 66 → (k ≡ r .part → ⊥) → Holds p (valuesOf k (w .done ++ (i ∷ []))) (getD (set slots (r .part) slot) k noSlot)
+      holds-other : (k : ℕ) → k < 66 → (k ≡ r .part → ⊥) → After k
       unfolding valuesOf
       holds-other k b n =
           let y : valuesOf k (w .done ++ (i ∷ [])) ≡ valuesOf k (w .done) =
           values-append k (w .done) (i ∷ []) ∙ (rw (ne-eqb (partOf (i .name)) k (λ z. n (sym (l .part ∙ z)))) (append-nil (valuesOf k (w .done)))) in
-          rw (y, getD-set-other slots (r .part) k slot noSlot n) (w .noted .each k b)
+          rw (y, getD-set-other tallies (r .part) k t 0 n, getD-set-other starts (r .part) k (at + 8) 0 n, getD-set-other lens (r .part) k (r .len) 0 n) (w .noted .each k b)
 
-      holds-more : (k : ℕ) → k < 66 → Holds p (valuesOf k (w .done ++ (i ∷ []))) (getD (set slots (r .part) slot) k noSlot)
+      holds-more : (k : ℕ) → k < 66 → After k
       holds-more k b = go (eqb k (r .part)) refl
         where
-          go : (x : Bool) → eqb k (r .part) ≡ x → Holds p (valuesOf k (w .done ++ (i ∷ []))) (getD (set slots (r .part) slot) k noSlot)
+          go : (x : Bool) → eqb k (r .part) ≡ x → After k
           go true z =
-              rw (eqb-true k (r .part) z, getD-set-same slots (r .part) slot noSlot (omega (arith, l .small, w .noted .count))) holds-same
+              let c = w .noted in
+              rw (eqb-true k (r .part) z, getD-set-same tallies (r .part) t 0 (omega (arith, l .small, c .tallied)), getD-set-same starts (r .part) (at + 8) 0 (omega (arith, l .small, c .started)), getD-set-same lens (r .part) (r .len) 0 (omega (arith, l .small, c .measured))) holds-same
           go false z = holds-other k b (eqb-false k (r .part) z)
 
-      pub midway-more : Midway p (set slots (r .part) (record { tally = t; start = at + 8; len = r .len })) m (at + 8 + r .len)
-      unfolding slot highestIn
+      pub midway-more : Midway p (set tallies (r .part) t) (set starts (r .part) (at + 8)) (set lens (r .part) (r .len)) m (at + 8 + r .len)
+      unfolding highestIn
       midway-more =
           record {
             within = inside;
             done = w .done ++ (i ∷ []);
             all = all-more;
             sound = sound-more;
-            noted = record { count = length-set slots (r .part) slot ∙ w .noted .count; each = holds-more };
+            noted =
+                record {
+                  tallied = length-set tallies (r .part) t ∙ w .noted .tallied;
+                  started = length-set starts (r .part) (at + 8) ∙ w .noted .started;
+                  measured = length-set lens (r .part) (r .len) ∙ w .noted .measured;
+                  each = holds-more;
+                };
             high =
                 let z : numberBy (partOf (i .name)) ≡ numberBy (r .part) = ap numberBy (sym (l .part)) in
                 omega (arith, em, w .high, highest-append (w .done) (i ∷ []), z);
           }
 
-  pub pass-broken : r .bad ≡ true → Passed p (record { broken = true; highest = highest; slots = slots })
+  pub pass-broken : r .bad ≡ true → Passed p (record { broken = true; highest = highest; tallies = tallies; starts = starts; lens = lens })
   pass-broken e = record { broken = sym (at-bad e); noted = λ z. absurd (clash z); high = λ z. absurd (clash z) }
 
-pub pass-done : (p : List ℕ) (slots : List Slot) (highest at : ℕ) → Midway p slots highest at → length p - at < 8 → Passed p (record { broken = false; highest = highest; slots = slots })
-pass-done p slots highest at w h =
+pub pass-done : (p tallies starts lens : List ℕ) (highest at : ℕ) → Midway p tallies starts lens highest at → length p - at < 8 → Passed p (record { broken = false; highest = highest; tallies = tallies; starts = starts; lens = lens })
+pass-done p tallies starts lens highest at w h =
     let d = length-drop at p in
     let y : itemsOf p ≡ w .done = w .all ∙ ap (λ (is : List Item). w .done ++ is) (items-none (drop at p) (omega arith)) ∙ append-nil (w .done) in
     record {

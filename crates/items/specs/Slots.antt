@@ -7,13 +7,9 @@ use Prim.Native.Nat.{ℕ, _+_, _-_, _/_, _%_, _≤_, _<_}
 use lib.Dec.{eqb, ltb}
 use lib.ListN.{length, getD, take, drop}
 use Rattle.octets.specs.Choice.{pick}
-use Rattle.items.specs.declared.Slot.{Slot}
 use Rattle.items.specs.declared.Seen.{Seen}
 use Rattle.items.specs.declared.Notes.{Notes}
-use Rattle.items.specs.TagItems.{Item, itemIn, itemsOf, partOf, isStream, isBad, someBad, valuesOf, highestIn}
-
-abbrev pub noSlot : Slot
-noSlot = record { tally = 0; start = 0; len = 0 }
+use Rattle.items.specs.TagItems.{Item, itemIn, itemsOf, partOf, isStream, isBad, someBad, valuesOf, valueOf, highestIn}
 
 -- none, one, or several
 abbrev pub tallyOf : List (List ℕ) → ℕ
@@ -37,18 +33,28 @@ pub record LooksAt (q : List ℕ) (r : Seen) : Type 0 where
   pub len : r .len ≡ itemIn q .bits / 8
   pub bad : r .bad ≡ isBad (itemIn q)
 
--- the slot of a name holds what is met of it in p: how many values; if it is one, the value's place
-pub record Holds (p : List ℕ) (vs : List (List ℕ)) (s : Slot) : Type 0 where
-  pub tally : s .tally ≡ tallyOf vs
-  pub inside : s .start + s .len ≤ length p
-  pub one : s .tally ≡ 1 → vs ≡ take (s .len) (drop (s .start) p) ∷ []
+-- what is noted of a name's values in p: how many there are; if it is one, the value's place and length
+pub record Holds (p : List ℕ) (vs : List (List ℕ)) (tally start len : ℕ) : Type 0 where
+  pub tallied : tally ≡ tallyOf vs
+  pub inside : start + len ≤ length p
+  pub one : tally ≡ 1 → vs ≡ take len (drop start p) ∷ []
 
-pub record Noted (p : List ℕ) (is : List Item) (slots : List Slot) : Type 0 where
-  pub count : length slots ≡ 66
-  pub each : (k : ℕ) → k < 66 → Holds p (valuesOf k is) (getD slots k noSlot)
+pub record Noted (p : List ℕ) (is : List Item) (tallies starts lens : List ℕ) : Type 0 where
+  pub tallied : length tallies ≡ 66
+  pub started : length starts ≡ 66
+  pub measured : length lens ≡ 66
+  pub each : (k : ℕ) → k < 66 → Holds p (valuesOf k is) (getD tallies k 0) (getD starts k 0) (getD lens k 0)
 
--- the whole pass: some item is bad, or the slots and the highest number are those of the items
+-- a value's place and length, and those of all that stand once
+pub record ValueAt (p v : List ℕ) (start len : ℕ) : Type 0 where
+  pub inside : start + len ≤ length p
+  pub value : take len (drop start p) ≡ v
+
+abbrev pub Placed : List ℕ → List Item → List ℕ → List ℕ → Type 0
+Placed p is starts lens = (k : ℕ) → k < 66 → length (valuesOf k is) ≡ 1 → ValueAt p (valueOf k is) (getD starts k 0) (getD lens k 0)
+
+-- the whole pass: some item is bad, or places and highest number are those of the items
 pub record Passed (p : List ℕ) (r : Notes) : Type 0 where
   pub broken : r .broken ≡ someBad (itemsOf p)
-  pub noted : r .broken ≡ false → Noted p (itemsOf p) (r .slots)
+  pub noted : r .broken ≡ false → Noted p (itemsOf p) (r .tallies) (r .starts) (r .lens)
   pub high : r .broken ≡ false → r .highest ≡ highestIn (itemsOf p)

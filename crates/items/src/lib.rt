@@ -1,16 +1,9 @@
 // One pass over the tag items of an EDI packet: where the value of management and of each stream lies.
 ghost use mathlib.Core.Path.{_≡_};
 ghost use Prim.Native.Nat.{_+_, _≤_, min, max};
-ghost use lib.ListN.{length, take, drop, replicate};
+ghost use lib.ListN.{length, take, drop};
 ghost use Rattle.items.specs.TagItems.{partOf, numberBy};
-ghost use Rattle.items.specs.Slots.{noSlot, moreBy, badBy, LooksAt, Passed};
-
-// What the pass notes of a name: how often its item was met (none, once, 2 for several), and where the last one's value lies.
-pub struct Slot {
-    pub tally: u8,
-    pub start: usize,
-    pub len: usize,
-}
+ghost use Rattle.items.specs.Slots.{moreBy, badBy, LooksAt, Passed};
 
 // A look at an item: which part it is, whether it is bad, its value's length.
 struct Seen {
@@ -19,11 +12,14 @@ struct Seen {
     len: usize,
 }
 
-// The whole pass: the slots of management, of streams 1 to 64 and of all others, and the highest stream number; nothing of them is known where an item is bad.
+// The whole pass, for management, streams 1 to 64 and all others: how often the item was met (none, once, 2 for several), and where the last one's value
+// lies; and the highest stream number. Nothing of them is known where an item is bad.
 pub struct Notes {
     pub broken: bool,
     pub highest: usize,
-    pub slots: [Slot; 66],
+    pub tallies: [u8; 66],
+    pub starts: [usize; 66],
+    pub lens: [usize; 66],
 }
 
 fn part(name: usize) -> usize
@@ -108,20 +104,12 @@ fn higher(highest: usize, part: usize) -> usize
     part
 }
 
-fn no_slots() -> [Slot; 66]
-    ensures { λ r. ⌜ r ≡ replicate 66 noSlot ⌝ }
-{
-    [Slot {
-        tally: 0,
-        start: 0,
-        len: 0,
-    }; 66]
-}
-
 pub fn pass(packet: &[u8]) -> Notes
     ensures { λ r. ⌜ Passed (now (packet .entry)) r ⌝ }
 {
-    let mut slots = no_slots();
+    let mut tallies = [0u8; 66];
+    let mut starts = [0usize; 66];
+    let mut lens = [0usize; 66];
     let mut highest = 0;
     let mut at = 0;
     while packet.len() - at >= 8 {
@@ -132,23 +120,24 @@ pub fn pass(packet: &[u8]) -> Notes
             return Notes {
                 broken: true,
                 highest,
-                slots,
+                tallies,
+                starts,
+                lens,
             };
         }
-        let slot = slots[part];
         let start = at + 8;
-        slots[part] = Slot {
-            tally: more(slot.tally),
-            start,
-            len,
-        };
+        tallies[part] = more(tallies[part]);
+        starts[part] = start;
+        lens[part] = len;
         highest = higher(highest, part);
         at = start + len;
     }
     Notes {
         broken: false,
         highest,
-        slots,
+        tallies,
+        starts,
+        lens,
     }
 }
 

@@ -12,9 +12,8 @@ use lib.ListN.{length, getD, take, drop}
 use Rattle.octets.specs.Choice.{pick}
 use Rattle.frame.specs.Rules.{first}
 use Rattle.frame.proofs.FirstRule.{none-hold}
-use Rattle.items.specs.declared.Slot.{Slot}
 use Rattle.items.specs.TagItems.{Item, itemsOf, partOf, numberBy, someBad, valuesOf, valueOf, highestIn, eachOnce}
-use Rattle.items.specs.Slots.{noSlot, tallyOf, Holds, Noted}
+use Rattle.items.specs.Slots.{tallyOf, Holds, Noted, ValueAt, Placed}
 use Rattle.items.proofs.ItemList.{both}
 use Rattle.tags.specs.TagValues.{lengthFor, levelIn}
 use Rattle.sorting.specs.declared.Sorted.{Sorted}
@@ -34,45 +33,55 @@ unfolding highestIn
 highest-small [] = omega arith
 highest-small (i ∷ is) = omega (arith, number-small (partOf (i .name)), highest-small is)
 
--- ---- a slot of one value
-pub tally-one : (vs : List (List ℕ)) → eqb (tallyOf vs) 1 ≡ eqb (length vs) 1
+-- ---- a value that was met once
+tally-one : (vs : List (List ℕ)) → eqb (tallyOf vs) 1 ≡ eqb (length vs) 1
 tally-one [] = refl
 tally-one (v ∷ []) = refl
 tally-one (v ∷ w ∷ vs) = sym (ne-eqb (length (v ∷ w ∷ vs)) 1 (λ (e : length (v ∷ w ∷ vs) ≡ 1). omega (arith, e)))
 
-pub slot-value : (p : List ℕ) (k : ℕ) (is : List Item) (s : Slot) → Holds p (valuesOf k is) s → s .tally ≡ 1 → take (s .len) (drop (s .start) p) ≡ valueOf k is
+pub value-at : (p : List ℕ) (k : ℕ) (is : List Item) (tally start len : ℕ) → Holds p (valuesOf k is) tally start len → tally ≡ 1 → ValueAt p (valueOf k is) start len
 unfolding valueOf
-slot-value p k is s y e = sym (ap (λ (vs : List (List ℕ)). getD vs 0 []) (y .one e))
+value-at p k is tally start len y e = record { inside = y .inside; value = sym (ap (λ (vs : List (List ℕ)). getD vs 0 []) (y .one e)) }
 
-pub once-more : (slots : List Slot) (n : ℕ) → onceTo slots (n + 1) ≡ (onceTo slots n && eqb (getD slots (n + 1) noSlot .tally) 1)
+one-tally : (vs : List (List ℕ)) → length vs ≡ 1 → tallyOf vs ≡ 1
+one-tally vs e = eqb-true (tallyOf vs) 1 (tally-one vs ∙ eq-eqb (length vs) 1 e)
+
+pub placed : (p : List ℕ) (is : List Item) (tallies starts lens : List ℕ) → Noted p is tallies starts lens → Placed p is starts lens
+placed p is tallies starts lens y k h e = value-at p k is (getD tallies k 0) (getD starts k 0) (getD lens k 0) (y .each k h) (y .each k h .tallied ∙ one-tally (valuesOf k is) e)
+
+pub once-more : (tallies : List ℕ) (n : ℕ) → onceTo tallies (n + 1) ≡ (onceTo tallies n && eqb (getD tallies (n + 1) 0) 1)
 unfolding onceTo
-once-more slots n = rw (add-one n)
+once-more tallies n = rw (add-one n)
 
-pub once-is : (p : List ℕ) (slots : List Slot) (is : List Item) → Noted p is slots → (n : ℕ) → n ≤ 64 → onceTo slots n ≡ eachOnce is n
+once-is : (tallies : List ℕ) (is : List Item) → ((k : ℕ) → k < 66 → getD tallies k 0 ≡ tallyOf (valuesOf k is)) → (n : ℕ) → n ≤ 64 → onceTo tallies n ≡ eachOnce is n
 unfolding onceTo eachOnce
-once-is p slots is y zero h = refl
-once-is p slots is y (suc n) h =
-    ap₂ _&&_ (once-is p slots is y n (omega arith))
-    (ap (λ (t : ℕ). eqb t 1) (y .each (suc n) (omega arith) .tally) ∙ tally-one (valuesOf (suc n) is))
+once-is tallies is y zero h = refl
+once-is tallies is y (suc n) h =
+    ap₂ _&&_ (once-is tallies is y n (omega arith))
+    (ap (λ (t : ℕ). eqb t 1) (y (suc n) (omega arith)) ∙ tally-one (valuesOf (suc n) is))
 
 -- ---- management
-module _ (p : List ℕ) (is : List Item) (s : Slot) (y : Holds p (valuesOf 0 is) s) where
-  counted : eqb (length (valuesOf 0 is)) 1 ≡ eqb (s .tally) 1
-  counted = sym (tally-one (valuesOf 0 is)) ∙ ap (λ (t : ℕ). eqb t 1) (sym (y .tally))
+module _ (p : List ℕ) (is : List Item) (tally start len : ℕ) (y : Holds p (valuesOf 0 is) tally start len) where
+  counted : eqb (length (valuesOf 0 is)) 1 ≡ eqb (tally) 1
+  counted = sym (tally-one (valuesOf 0 is)) ∙ ap (λ (t : ℕ). eqb t 1) (sym (y .tallied))
 
-  pub unmanaged : (s .tally ≡ 1 → ⊥) → false ≡ isManaged is
+  pub unmanaged : (tally ≡ 1 → ⊥) → false ≡ isManaged is
   unfolding isManaged
-  unmanaged h = rw (counted ∙ ne-eqb (s .tally) 1 h)
+  unmanaged h = rw (counted ∙ ne-eqb (tally) 1 h)
 
-  pub managed-is : s .tally ≡ 1 → eqb (length (valueOf 0 is)) (lengthFor (valueOf 0 is)) ≡ isManaged is
+  pub managed-is : tally ≡ 1 → eqb (length (valueOf 0 is)) (lengthFor (valueOf 0 is)) ≡ isManaged is
   unfolding isManaged
-  managed-is e = rw (counted ∙ eq-eqb (s .tally) 1 e)
+  managed-is e = rw (counted ∙ eq-eqb (tally) 1 e)
 
-  pub managed-one : isManaged is ≡ true → s .tally ≡ 1
+  pub managed-one : isManaged is ≡ true → tally ≡ 1
   unfolding isManaged
   managed-one h =
       let b = both (eqb (length (valuesOf 0 is)) 1) (eqb (length (valueOf 0 is)) (lengthFor (valueOf 0 is))) h in
-      eqb-true (s .tally) 1 (sym counted ∙ b .0)
+      eqb-true (tally) 1 (sym counted ∙ b .0)
+
+pub managed-once : (is : List Item) → isManaged is ≡ true → length (valuesOf 0 is) ≡ 1
+unfolding isManaged
+managed-once is h = eqb-true _ 1 (both (eqb (length (valuesOf 0 is)) 1) (eqb (length (valueOf 0 is)) (lengthFor (valueOf 0 is))) h .0)
 
 pub managed-called : (is : List Item) → isManaged is ≡ true → length (valueOf 0 is) ≡ lengthFor (valueOf 0 is)
 unfolding isManaged
@@ -97,16 +106,16 @@ module _ (is : List Item) (b : someBad is ≡ false) where
       pub parts-0 : level ≤ 3 → 0 ≡ first (itemRulesOf is)
       parts-0 h = sym (later ∙ ap (λ (t : Bool). pick t 35 0) (le-ltb 3 level h))
 
-pub once-as : (p : List ℕ) (slots : List Slot) (n : ℕ) → Sound p slots n → onceTo slots n ≡ eachOnce (itemsOf p) (highestIn (itemsOf p))
-once-as p slots n y =
-    once-is p slots (itemsOf p) (y .noted) n (omega (arith, y .high, highest-small (itemsOf p))) ∙ ap (eachOnce (itemsOf p)) (y .high)
+pub once-as : (p tallies : List ℕ) (start len n : ℕ) → Sound p tallies start len n → onceTo tallies n ≡ eachOnce (itemsOf p) (highestIn (itemsOf p))
+once-as p tallies start len n y =
+    once-is tallies (itemsOf p) (y .tallied) n (omega (arith, y .high, highest-small (itemsOf p))) ∙ ap (eachOnce (itemsOf p)) (y .high)
 
 never : _≡_ {A = ℕ} 20 0 → ⊥
 never e = omega (arith, e)
 
-pub sorts-20 : (p : List ℕ) (slots : List Slot) (n : ℕ) → someBad (itemsOf p) ≡ true → Sorts p (record { number = 20; highest = n; slots = slots })
-sorts-20 p slots n b =
-    record { number = rw b; noted = λ e. absurd (never e); high = λ e. absurd (never e) }
+pub sorts-20 : (p starts lens : List ℕ) (n : ℕ) → someBad (itemsOf p) ≡ true → Sorts p (record { number = 20; highest = n; starts = starts; lens = lens })
+sorts-20 p starts lens n b =
+    record { number = rw b; placed = λ e. absurd (never e); high = λ e. absurd (never e) }
 
 -- ---- what is known where none of the items' rules refuses
 pub record Clear (is : List Item) : Type 0 where

@@ -8,7 +8,7 @@ use lib.Dec.{eqb, ltb}
 use lib.ListN.{length}
 use Rattle.frame.specs.Rules.{Rule, _when_, first}
 use Rattle.items.specs.TagItems.{Item, itemsOf, someBad, valuesOf, valueOf, highestIn, eachOnce}
-use Rattle.items.specs.Slots.{Noted}
+use Rattle.items.specs.Slots.{Placed}
 use Rattle.tags.specs.TagValues.{lengthFor, levelIn}
 use Rattle.sorting.specs.declared.Sorted.{Sorted}
 
@@ -24,8 +24,8 @@ itemRulesOf is =
     ∷ (35 when ltb 3 (levelIn (valueOf 0 is)))
     ∷ []
 
--- a packet's number, and, where that is 0, its slots and highest stream number
+-- a packet's number, and, where that is 0, its values' places and highest stream number
 pub record Sorts (p : List ℕ) (r : Sorted) : Type 0 where
   pub number : r .number ≡ first (itemRulesOf (itemsOf p))
-  pub noted : r .number ≡ 0 → Noted p (itemsOf p) (r .slots)
+  pub placed : r .number ≡ 0 → Placed p (itemsOf p) (r .starts) (r .lens)
   pub high : r .number ≡ 0 → r .highest ≡ highestIn (itemsOf p)

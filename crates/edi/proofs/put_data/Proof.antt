@@ -13,35 +13,44 @@ use Rattle.edi.proofs.put_data.Statement.{statement}
 use Rattle.edi.proofs.put_data.Tie as tie
 
 abbrev Inv-loop : tie.InvT-loop
-Inv-loop main₀ at packet n slots next₀ i₀ main next i = Filling (itemsOf packet) main₀ at n main next i
+Inv-loop main₀ at packet n starts lens next₀ i₀ main next i = Filling (itemsOf packet) main₀ at n main next i
 
 abbrev μ-loop : tie.MeasureT-loop
-μ-loop main₀ at packet n slots next₀ i₀ main next i = n - i
+μ-loop main₀ at packet n starts lens next₀ i₀ main next i = n - i
 
 loop-holds : tie.Need-loop-holds Inv-loop μ-loop
 loop-holds c = filling-none _ _ _ _ (search needs)
 
-add-slot : tie.Need-add-slot Inv-loop μ-loop
-add-slot c = let h = kept-count _ _ _ (c .before .before .before .before .pre .0 .kept) in let f = (c .before .loop .inv) in omega arith
+add-stream-data : tie.Need-add-stream-data Inv-loop μ-loop
+add-stream-data c = let h = kept-count _ _ _ _ (c .before .before .before .before .pre .0) in let f = c .before .loop .inv in omega arith
 
-mul-slot : tie.Need-mul-slot Inv-loop μ-loop
-mul-slot c = let h = kept-count _ _ _ (c .before .before .before .before .pre .0 .kept) in let f = (c .before .loop .inv) in omega arith
+mul-stream-data : tie.Need-mul-stream-data Inv-loop μ-loop
+mul-stream-data c = let h = kept-count _ _ _ _ (c .before .before .before .before .pre .0) in let f = c .before .loop .inv in omega arith
 
-array-copy-out-slot : tie.Need-array-copy-out-slot Inv-loop μ-loop
-array-copy-out-slot c = let h = kept-count _ _ _ (c .before .before .before .before .pre .0 .kept) in let f = (c .before .loop .inv) in omega arith
+array-read-stream-data : tie.Need-array-read-stream-data Inv-loop μ-loop
+array-read-stream-data c = let h = kept-count _ _ _ _ (c .before .before .before .before .pre .0) in let f = c .before .loop .inv in omega arith
+
+add-stream-data-2 : tie.Need-add-stream-data-2 Inv-loop μ-loop
+add-stream-data-2 c = let h = kept-count _ _ _ _ (c .before .before .before .before .pre .0) in let f = c .before .loop .inv in omega arith
+
+mul-stream-data-2 : tie.Need-mul-stream-data-2 Inv-loop μ-loop
+mul-stream-data-2 c = let h = kept-count _ _ _ _ (c .before .before .before .before .pre .0) in let f = c .before .loop .inv in omega arith
+
+array-read-stream-data-2 : tie.Need-array-read-stream-data-2 Inv-loop μ-loop
+array-read-stream-data-2 c = let h = kept-count _ _ _ _ (c .before .before .before .before .pre .0) in let f = c .before .loop .inv in omega arith
 
 add-next : tie.Need-add-next Inv-loop μ-loop
 add-next c =
-    let start = c .before .before .before .before .before .before .before .before .before .before in
-    let turn = c .before .before .before .before .before .before .before .loop in
-    let e = c .before .before .before .before .stream-data .ensures ∙ ap (drop 3) (stream-at _ _ _ (start .pre .0 .kept) (turn .i) (search needs) .value) in
+    let start = c .before .before .before .before .before .before .before .before .before in
+    let turn = c .before .before .before .before .before .before .loop in
+    let e = c .before .before .before .before .stream-data .ensures ∙ ap (drop 3) (stream-at _ _ _ _ (start .pre .0) (turn .i) (search needs) .at .value) in
     omega (arith, filling-place _ _ _ _ (start .pre .1) _ _ _ (turn .inv) (search needs) _ e)
 
 loop-again : tie.Need-loop-again Inv-loop μ-loop
 loop-again c =
-    let start = c .before .before .before .before .before .before .before .before .before .before in
-    let turn = c .before .before .before .before .before .before .before .loop in
-    let e = c .before .before .before .before .stream-data .ensures ∙ ap (drop 3) (stream-at _ _ _ (start .pre .0 .kept) (turn .i) (search needs) .value) in
+    let start = c .before .before .before .before .before .before .before .before .before in
+    let turn = c .before .before .before .before .before .before .loop in
+    let e = c .before .before .before .before .stream-data .ensures ∙ ap (drop 3) (stream-at _ _ _ _ (start .pre .0) (turn .i) (search needs) .at .value) in
     filling-more _ _ _ _ (start .pre .1) _ _ _ (turn .inv) (search needs) _ e _ (c .before .before .put-bytes .ensures)
 
 same-length : tie.Need-same-length Inv-loop μ-loop
@@ -61,9 +70,12 @@ put-data-spec =
     Inv-loop
     μ-loop
     loop-holds
-    add-slot
-    mul-slot
-    array-copy-out-slot
+    add-stream-data
+    mul-stream-data
+    array-read-stream-data
+    add-stream-data-2
+    mul-stream-data-2
+    array-read-stream-data-2
     (λ c κs. search needs)
     (λ c κs. search needs)
     add-next

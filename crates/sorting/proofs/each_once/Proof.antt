@@ -8,17 +8,17 @@ use Rattle.sorting.proofs.each_once.Statement.{statement}
 use Rattle.sorting.proofs.each_once.Tie as tie
 
 abbrev Inv-loop : tie.InvT-loop
-Inv-loop n slots once₀ i₀ once i = (i ≤ n) × (once ≡ onceTo slots i)
+Inv-loop n tallies once₀ i₀ once i = (i ≤ n) × (once ≡ onceTo tallies i)
 
 abbrev μ-loop : tie.MeasureT-loop
-μ-loop n slots once₀ i₀ once i = n - i
+μ-loop n tallies once₀ i₀ once i = n - i
 
 loop-holds : tie.Need-loop-holds Inv-loop μ-loop
 unfolding onceTo
 loop-holds c = (search needs, refl)
 
 loop-again : tie.Need-loop-again Inv-loop μ-loop
-loop-again c = (search needs, cc (once-more (c .before .before .before .before .args .t1) (c .before .before .before .loop .i)))
+loop-again c = (search needs, cc (once-more (c .before .before .args .t1) (c .before .loop .i)))
 
 returns : tie.Need-returns Inv-loop μ-loop
 returns c = let e = le-antisymm (c .before .loop .inv .0) (c .loop-test .left) in cc
@@ -30,7 +30,6 @@ each-once-spec =
     Inv-loop
     μ-loop
     loop-holds
-    (λ c. search needs)
     (λ c. search needs)
     (λ c. search needs)
     (λ c. search needs)
