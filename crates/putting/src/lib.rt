@@ -1,4 +1,4 @@
-// Numbers into bytes, high byte first: each is stored only where there is room for all of it.
+// Numbers into bytes, high byte first, and bytes as they are: each is stored only where there is room for all of it.
 ghost use mathlib.Core.Path.{_≡_};
 ghost use Rattle.octets.specs.Words.{split, bytes2, bytes4, bytes8};
 ghost use Rattle.octets.specs.Stores.{put};
@@ -46,4 +46,22 @@ pub fn put8(out: &mut [u8], at: usize, n: usize)
     }
     put4(out, at, n / 4294967296);
     put4(out, at + 4, n);
+}
+
+pub fn put_bytes(out: &mut [u8], at: usize, bytes: &[u8])
+    ensures { λ _. ⌜ now (out .exit) ≡ put (now (out .entry)) at (now (bytes .entry)) ⌝ }
+{
+    let n = bytes.len();
+    let len = out.len();
+    if len < n {
+        return;
+    }
+    if at > len - n {
+        return;
+    }
+    let mut i = 0;
+    while i < n {
+        out[at + i] = bytes[i];
+        i += 1;
+    }
 }

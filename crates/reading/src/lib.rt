@@ -33,7 +33,7 @@ fn main_sum(frame: &[u8]) -> u16
     )
 }
 
-fn timestamp(n: u32) -> Timestamp
+pub fn timestamp(n: u32) -> Timestamp
     ensures { λ r. ⌜ r ≡ timestampFor n ⌝ }
 {
     if n == 0xFFFFFF {

@@ -63,17 +63,6 @@ fn put_streams(out: &mut [u8], table: [Stream; 64], n: usize)
     }
 }
 
-fn put_main(out: &mut [u8], at: usize, main: &[u8])
-    requires { ⌜ at + length (now main) ≤ length (now out) ⌝ }
-    ensures { λ _. ⌜ now (out .exit) ≡ put (now (out .entry)) at (now (main .entry)) ⌝ }
-{
-    let mut i = 0;
-    while i < main.len() {
-        out[at + i] = main[i];
-        i += 1;
-    }
-}
-
 // 55 from a place up to the end.
 fn pad(out: &mut [u8], from: usize)
     requires { ⌜ from ≤ length (now out) ⌝ }
@@ -153,7 +142,7 @@ fn fill(x: Fields, main: &[u8], out: &mut [u8])
     put_header(out, x, fl(x));
     let sum = ring::sum_between(out, 4, end);
     putting::put2(out, end, sum);
-    put_main(out, end + 2, main);
+    putting::put_bytes(out, end + 2, main);
     let next = end + 2 + main.len();
     let main_sum = ring::sum_between(out, end + 2, next);
     put_end(out, next, x, main_sum);

@@ -4,9 +4,6 @@ use borrow.Author.Needs.{needs}
 use Rattle.writing.proofs.fill.Statement.{statement}
 use Rattle.writing.proofs.fill.Tie as tie
 
-put-main-requires : tie.Need-put-main-requires
-put-main-requires c κs = omega (arith, fits _ _ _ (c .before .before .before .before .before .before .before .before .before .before .before .before .before .before .before .pre))
-
 put-end-requires : tie.Need-put-end-requires
 put-end-requires c κs = omega (arith, fits _ _ _ (c .before .before .before .before .before .before .before .before .before .before .before .before .before .before .before .before .before .before .before .before .before .pre))
 
@@ -22,7 +19,7 @@ returns c =
     (header .ensures .0)
     (c .before .before .before .before .before .before .before .before .before .before .before .before .before .before .before .before .before .before .sum-between .ensures)
     (c .before .before .before .before .before .before .before .before .before .before .before .before .before .before .before .before .put2 .ensures)
-    (c .before .before .before .before .before .before .before .before .before .before .before .before .put-main .ensures)
+    (c .before .before .before .before .before .before .before .before .before .before .before .before .put-bytes .ensures)
     (c .before .before .before .before .before .before .before .before .sum-between2 .ensures)
     (c .before .before .before .before .before .before .put-end .ensures)
     (c .before .before .pad .ensures)
@@ -38,7 +35,7 @@ fill-spec =
     (λ c κs. search needs)
     (λ c κs. search needs)
     (λ c. search needs)
-    put-main-requires
+    (λ c κs. search needs)
     (λ c. search needs)
     (λ c. search needs)
     (λ c. search needs)

@@ -1,0 +1,2 @@
+pub mod StreamsKept
+pub mod RegeneratingRules

@@ -1,0 +1,2 @@
+pub mod Regenerating
+pub mod EdiClauses

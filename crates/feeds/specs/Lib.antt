@@ -1,0 +1,2 @@
+pub mod FromItems
+pub mod Packed

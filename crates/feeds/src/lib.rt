@@ -1,0 +1,1 @@
+// Regional IP feeds: theorems about regenerating, in proofs/.

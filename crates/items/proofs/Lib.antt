@@ -1,0 +1,2 @@
+pub mod ItemList
+pub mod Passing

@@ -1,0 +1,2 @@
+pub mod TagItems
+pub mod Slots

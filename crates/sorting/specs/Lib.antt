@@ -1,0 +1,2 @@
+pub mod TagRules
+pub mod SortClauses

@@ -1,0 +1,17 @@
+use mathlib.Core.Path.{sym, _∙_}
+use borrow.Author.Tests.{eq-eqb, ne-eqb}
+use Rattle.tags.specs.TagValues.{rfuIn}
+use borrow.Author.Needs.{needs}
+use Rattle.tags.proofs.rfu.Statement.{statement}
+use Rattle.tags.proofs.rfu.Tie as tie
+
+returns : tie.Need-returns
+unfolding rfuIn
+returns c = rw (eq-eqb _ _ (sym (c .before .before .pre) ∙ c .if1 .taken))
+
+returns-2 : tie.Need-returns-2
+unfolding rfuIn
+returns-2 c = rw (ne-eqb _ _ (λ e. c .before .before .if1 .left (c .before .before .before .before .pre ∙ e))) (cc)
+
+pub rfu-spec : {M : Type 1} → statement M
+rfu-spec = tie.close (tie.spec returns (λ c κs. search needs) (λ c κs. search needs) (λ c. search needs) returns-2)
