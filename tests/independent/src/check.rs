@@ -2,8 +2,10 @@
 
 mod chains;
 mod looks;
-mod reasons;
+#[cfg(feature = "packets")]
+mod packets;
 mod profiles;
+mod reasons;
 mod signals;
 
 use crate::abi;
@@ -65,6 +67,11 @@ pub struct Tally {
     pub signals: u64,
     /// Messages, at 0, and drops and refusals of signalling by their number.
     pub signal_numbers: [u64; 37],
+    pub packets: u64,
+    /// Packets by their number.
+    pub packet_numbers: [u64; 36],
+    /// Packets that were cut at every byte.
+    pub packets_cut: u64,
 }
 
 impl Default for Tally {
@@ -89,6 +96,9 @@ impl Default for Tally {
             profile_numbers: [0; 34],
             signals: 0,
             signal_numbers: [0; 37],
+            packets: 0,
+            packet_numbers: [0; 36],
+            packets_cut: 0,
         }
     }
 }
@@ -114,6 +124,9 @@ impl AddAssign<&Tally> for Tally {
         add_each(&mut self.profile_numbers, &other.profile_numbers);
         self.signals += other.signals;
         add_each(&mut self.signal_numbers, &other.signal_numbers);
+        self.packets += other.packets;
+        add_each(&mut self.packet_numbers, &other.packet_numbers);
+        self.packets_cut += other.packets_cut;
     }
 }
 
@@ -148,6 +161,10 @@ pub fn check(sort: Sort, seed: u64, number: u64, tally: &mut Tally) -> Checked<(
         Sort::Chain => case.chain(),
         Sort::Places => case.every_place(),
         Sort::Profile => case.profile(),
+        #[cfg(feature = "packets")]
+        Sort::Packet => case.packet(),
+        #[cfg(not(feature = "packets"))]
+        Sort::Packet => Ok(()),
     }
 }
 

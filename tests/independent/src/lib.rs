@@ -5,6 +5,7 @@ pub mod abi;
 pub mod chain;
 #[cfg(feature = "proved")]
 pub mod check;
+pub mod edi;
 pub mod frame;
 pub mod generate;
 pub mod line;
@@ -12,6 +13,8 @@ pub mod line;
 pub mod line_abi;
 pub mod listing;
 pub mod looks;
+#[cfg(feature = "packets")]
+pub mod packets_abi;
 pub mod profile;
 pub mod reed_solomon;
 pub mod relay;

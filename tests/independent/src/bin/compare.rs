@@ -7,13 +7,16 @@ use std::thread;
 use std::time::{Duration, Instant};
 
 const USAGE: &str =
-    "usage: compare [--seed N] [--frames N] [--records N] [--signals N] [--chains N] [--places N] [--profiles N] [--seconds N]";
+    "usage: compare [--seed N] [--frames N] [--records N] [--signals N] [--chains N] [--places N] [--profiles N] [--packets N] [--seconds N]";
 const THREADS: u64 = 2;
 /// A message, and the numbers that signalling tells or refuses with.
 const SIGNAL_NUMBERS: [usize; 7] = [0, 1, 12, 24, 25, 26, 36];
 
 /// Passing, some of reading's refusals, and the profile's own.
 const PROFILE_NUMBERS: [usize; 8] = [0, 1, 6, 9, 30, 31, 32, 33];
+
+/// Regenerated, and the numbers that packets are refused with.
+const PACKET_NUMBERS: [usize; 10] = [0, 1, 7, 8, 10, 12, 20, 21, 22, 35];
 
 struct Options {
     seed: u64,
@@ -24,6 +27,7 @@ struct Options {
     /// Records whose every place is asked about.
     places: u64,
     profiles: u64,
+    packets: u64,
     /// Rounds go on until the time is up.
     seconds: Option<u64>,
 }
@@ -61,6 +65,7 @@ fn options(mut arguments: impl Iterator<Item = String>) -> Result<Options, Strin
         chains: 5_000,
         places: 200,
         profiles: 40_000,
+        packets: 20_000,
         seconds: None,
     };
     while let Some(name) = arguments.next() {
@@ -74,6 +79,7 @@ fn options(mut arguments: impl Iterator<Item = String>) -> Result<Options, Strin
             "--chains" => options.chains = value,
             "--places" => options.places = value,
             "--profiles" => options.profiles = value,
+            "--packets" => options.packets = value,
             "--seconds" => options.seconds = Some(value),
             _ => return Err(format!("{name} is not known")),
         }
@@ -128,6 +134,7 @@ fn part(seed: u64, options: &Options, thread: u64) -> Result<Tally, Found> {
         (Sort::Chain, options.chains),
         (Sort::Places, options.places),
         (Sort::Profile, options.profiles),
+        (Sort::Packet, options.packets),
     ];
     for (sort, count) in sorts {
         for case in (thread..count).step_by(THREADS as usize) {
@@ -167,6 +174,9 @@ fn report(tally: &Tally) -> ExitCode {
         println!("profiles, number {number}: {count} times");
         never |= count == 0;
     }
+    if cfg!(feature = "packets") {
+        never |= packets_never(tally);
+    }
     let chains = [
         ("chains", tally.chains),
         ("relays in chains", tally.relays),
@@ -193,6 +203,19 @@ fn report(tally: &Tally) -> ExitCode {
     }
     println!("no mismatch");
     ExitCode::SUCCESS
+}
+
+/// Whether a number of packets was never met.
+fn packets_never(tally: &Tally) -> bool {
+    println!(
+        "packets {}, cut at every byte {}",
+        tally.packets, tally.packets_cut
+    );
+    let counts = PACKET_NUMBERS.map(|number| tally.packet_numbers[number]);
+    for (number, count) in PACKET_NUMBERS.iter().zip(counts) {
+        println!("packets, number {number}: {count} times");
+    }
+    tally.packets_cut == 0 || counts.contains(&0)
 }
 
 fn print_found(found: &Found) {
