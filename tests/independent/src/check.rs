@@ -1,6 +1,8 @@
 //! One case through the proved exports and through this implementation.
 
 mod chains;
+#[cfg(feature = "sheets")]
+mod logs;
 mod looks;
 #[cfg(feature = "packets")]
 mod packets;
@@ -72,6 +74,13 @@ pub struct Tally {
     pub packet_numbers: [u64; 36],
     /// Packets that were cut at every byte.
     pub packets_cut: u64,
+    pub logs: u64,
+    /// Answers about logs and sheets by their number.
+    pub log_numbers: [u64; 38],
+    /// Logs added in parts, made bad at every byte, and written from a walk's items.
+    pub logs_in_parts: u64,
+    pub logs_bad_everywhere: u64,
+    pub logs_of_walks: u64,
 }
 
 impl Default for Tally {
@@ -99,6 +108,11 @@ impl Default for Tally {
             packets: 0,
             packet_numbers: [0; 36],
             packets_cut: 0,
+            logs: 0,
+            log_numbers: [0; 38],
+            logs_in_parts: 0,
+            logs_bad_everywhere: 0,
+            logs_of_walks: 0,
         }
     }
 }
@@ -127,6 +141,11 @@ impl AddAssign<&Tally> for Tally {
         self.packets += other.packets;
         add_each(&mut self.packet_numbers, &other.packet_numbers);
         self.packets_cut += other.packets_cut;
+        self.logs += other.logs;
+        add_each(&mut self.log_numbers, &other.log_numbers);
+        self.logs_in_parts += other.logs_in_parts;
+        self.logs_bad_everywhere += other.logs_bad_everywhere;
+        self.logs_of_walks += other.logs_of_walks;
     }
 }
 
@@ -165,6 +184,10 @@ pub fn check(sort: Sort, seed: u64, number: u64, tally: &mut Tally) -> Checked<(
         Sort::Packet => case.packet(),
         #[cfg(not(feature = "packets"))]
         Sort::Packet => Ok(()),
+        #[cfg(feature = "sheets")]
+        Sort::Log => case.log(),
+        #[cfg(not(feature = "sheets"))]
+        Sort::Log => Ok(()),
     }
 }
 

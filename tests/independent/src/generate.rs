@@ -1,7 +1,8 @@
-//! Seeded cases: frames, field sets for writing, records, frames with signalling, chains of relays, records whose every place is asked about, tables for the profile, and EDI packets.
+//! Seeded cases: frames, field sets for writing, records, frames with signalling, chains of relays, records whose every place is asked about, tables for the profile, EDI packets, and fault logs.
 
 pub mod chains;
 pub mod frames;
+pub mod logs;
 pub mod packets;
 pub mod profiles;
 pub mod records;
@@ -20,6 +21,7 @@ pub enum Sort {
     Places = 6,
     Profile = 7,
     Packet = 8,
+    Log = 9,
 }
 
 /// Splitmix64.

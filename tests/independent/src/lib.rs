@@ -12,6 +12,9 @@ pub mod line;
 #[cfg(feature = "proved")]
 pub mod line_abi;
 pub mod listing;
+pub mod log;
+#[cfg(feature = "sheets")]
+pub mod logs_abi;
 pub mod looks;
 #[cfg(feature = "packets")]
 pub mod packets_abi;

@@ -7,7 +7,7 @@ use std::thread;
 use std::time::{Duration, Instant};
 
 const USAGE: &str =
-    "usage: compare [--seed N] [--frames N] [--records N] [--signals N] [--chains N] [--places N] [--profiles N] [--packets N] [--seconds N]";
+    "usage: compare [--seed N] [--frames N] [--records N] [--signals N] [--chains N] [--places N] [--profiles N] [--packets N] [--logs N] [--seconds N]";
 const THREADS: u64 = 2;
 /// A message, and the numbers that signalling tells or refuses with.
 const SIGNAL_NUMBERS: [usize; 7] = [0, 1, 12, 24, 25, 26, 36];
@@ -17,6 +17,9 @@ const PROFILE_NUMBERS: [usize; 8] = [0, 1, 6, 9, 30, 31, 32, 33];
 
 /// Regenerated, and the numbers that packets are refused with.
 const PACKET_NUMBERS: [usize; 10] = [0, 1, 7, 8, 10, 12, 20, 21, 22, 35];
+
+/// Done, and the numbers that logs, entries and sheets are refused with.
+const LOG_NUMBERS: [usize; 7] = [0, 1, 12, 28, 29, 34, 37];
 
 struct Options {
     seed: u64,
@@ -28,6 +31,7 @@ struct Options {
     places: u64,
     profiles: u64,
     packets: u64,
+    logs: u64,
     /// Rounds go on until the time is up.
     seconds: Option<u64>,
 }
@@ -66,6 +70,7 @@ fn options(mut arguments: impl Iterator<Item = String>) -> Result<Options, Strin
         places: 200,
         profiles: 40_000,
         packets: 20_000,
+        logs: 20_000,
         seconds: None,
     };
     while let Some(name) = arguments.next() {
@@ -80,6 +85,7 @@ fn options(mut arguments: impl Iterator<Item = String>) -> Result<Options, Strin
             "--places" => options.places = value,
             "--profiles" => options.profiles = value,
             "--packets" => options.packets = value,
+            "--logs" => options.logs = value,
             "--seconds" => options.seconds = Some(value),
             _ => return Err(format!("{name} is not known")),
         }
@@ -135,6 +141,7 @@ fn part(seed: u64, options: &Options, thread: u64) -> Result<Tally, Found> {
         (Sort::Places, options.places),
         (Sort::Profile, options.profiles),
         (Sort::Packet, options.packets),
+        (Sort::Log, options.logs),
     ];
     for (sort, count) in sorts {
         for case in (thread..count).step_by(THREADS as usize) {
@@ -177,6 +184,9 @@ fn report(tally: &Tally) -> ExitCode {
     if cfg!(feature = "packets") {
         never |= packets_never(tally);
     }
+    if cfg!(feature = "sheets") {
+        never |= logs_never(tally);
+    }
     let chains = [
         ("chains", tally.chains),
         ("relays in chains", tally.relays),
@@ -216,6 +226,25 @@ fn packets_never(tally: &Tally) -> bool {
         println!("packets, number {number}: {count} times");
     }
     tally.packets_cut == 0 || counts.contains(&0)
+}
+
+/// Whether a number of logs, or a sort of log, was never met.
+fn logs_never(tally: &Tally) -> bool {
+    let sorts = [
+        tally.logs_in_parts,
+        tally.logs_bad_everywhere,
+        tally.logs_of_walks,
+    ];
+    let [parts, everywhere, walks] = sorts;
+    println!(
+        "logs {}, added in parts {parts}, bad at every byte {everywhere}, of walks {walks}",
+        tally.logs
+    );
+    let counts = LOG_NUMBERS.map(|number| tally.log_numbers[number]);
+    for (number, count) in LOG_NUMBERS.iter().zip(counts) {
+        println!("logs, number {number}: {count} times");
+    }
+    sorts.contains(&0) || counts.contains(&0)
 }
 
 fn print_found(found: &Found) {
