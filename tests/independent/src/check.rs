@@ -155,8 +155,9 @@ fn add_each(to: &mut [u64], from: &[u64]) {
     }
 }
 
-/// A case under way: its random numbers, its kind for a report, and what is counted.
+/// A case under way: its own number, its random numbers, its kind for a report, and what is counted.
 struct Case<'a> {
+    number: u64,
     random: Random,
     kind: String,
     tally: &'a mut Tally,
@@ -168,6 +169,7 @@ type Expected = Result<Vec<u8>, u8>;
 
 pub fn check(sort: Sort, seed: u64, number: u64, tally: &mut Tally) -> Checked<()> {
     let mut case = Case {
+        number,
         random: Random::new(seed, sort, number),
         kind: String::new(),
         tally,
