@@ -1,7 +1,8 @@
 //! EDI packets worked out by hand from clause 5 and annex A.2.
 
 use independent::edi::regenerate;
-use independent::frame::{read, Timestamp, FRAME};
+use independent::frame::{main_stream_part, read, Timestamp, FRAME};
+use independent::sum::sum;
 
 /// An item with its length stated in bits.
 fn item(name: &[u8; 4], bits: u32, value: &[u8]) -> Vec<u8> {
@@ -253,4 +254,32 @@ fn cut_at_every_byte() {
         };
         assert_eq!(told(&packet[..length], FRAME).err(), expected, "{length}");
     }
+}
+
+/// The sample: streams 3, 1 and 2 with strangers between them, management behind the second, three bytes at the end.
+#[test]
+fn sample_packet() {
+    let packet = include_bytes!("../../../samples/packet.edi");
+    let frame = told(packet, FRAME).unwrap();
+    // The sum of annex D over the whole frame, made without this implementation.
+    assert_eq!(sum(&frame), 0x53F9);
+    let reading = read(&frame).unwrap();
+    let header = reading.header;
+    assert_eq!(
+        (header.level, header.fct, header.fp, header.mid),
+        (1, 42, 3, 1)
+    );
+    assert_eq!((header.nst, header.fl, header.mnsc), (3, 172, 0xFFFF));
+    assert_eq!((header.rfu, header.rfa), (0xFFFF, 0xFF));
+    assert_eq!(header.timestamp, Timestamp::Time(0x3E_8000));
+    let entries = reading.table[..3]
+        .iter()
+        .map(|entry| (entry.scid, entry.sad, entry.tpl, entry.stl));
+    let expected = [(1, 54, 34, 24), (2, 90, 35, 48), (3, 0, 16, 0)];
+    assert!(entries.eq(expected));
+    let mut main = (0..96).map(|i| i * 7 % 256).collect::<Vec<usize>>();
+    main.extend((0..192).map(|i| (i * 3 + 17) % 256));
+    main.extend((0..384).map(|i| (i * 3 + 34) % 256));
+    let bytes = frame[main_stream_part(&frame).unwrap()].iter();
+    assert!(bytes.map(|&byte| usize::from(byte)).eq(main));
 }

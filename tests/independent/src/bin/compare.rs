@@ -170,22 +170,26 @@ fn report(tally: &Tally) -> ExitCode {
         println!("number {number}: {count} cases");
     }
     println!("signalling {}", tally.signals);
-    for number in SIGNAL_NUMBERS {
-        let count = tally.signal_numbers[number];
-        println!("signalling, number {number}: {count} times");
-        never |= count == 0;
-    }
+    never |= never_met("signalling", &SIGNAL_NUMBERS, &tally.signal_numbers);
     println!("profiles {}", tally.profiles);
-    for number in PROFILE_NUMBERS {
-        let count = tally.profile_numbers[number];
-        println!("profiles, number {number}: {count} times");
-        never |= count == 0;
-    }
+    never |= never_met("profiles", &PROFILE_NUMBERS, &tally.profile_numbers);
     if cfg!(feature = "packets") {
-        never |= packets_never(tally);
+        let (packets, cut) = (tally.packets, tally.packets_cut);
+        println!("packets {packets}, cut at every byte {cut}");
+        never |= never_met("packets", &PACKET_NUMBERS, &tally.packet_numbers) || cut == 0;
     }
     if cfg!(feature = "sheets") {
-        never |= logs_never(tally);
+        let sorts = [
+            tally.logs_in_parts,
+            tally.logs_bad_everywhere,
+            tally.logs_of_walks,
+        ];
+        let [parts, bad, walks] = sorts;
+        println!(
+            "logs {}, added in parts {parts}, bad at every byte {bad}, of walks {walks}",
+            tally.logs
+        );
+        never |= never_met("logs", &LOG_NUMBERS, &tally.log_numbers) || sorts.contains(&0);
     }
     let chains = [
         ("chains", tally.chains),
@@ -215,36 +219,12 @@ fn report(tally: &Tally) -> ExitCode {
     ExitCode::SUCCESS
 }
 
-/// Whether a number of packets was never met.
-fn packets_never(tally: &Tally) -> bool {
-    println!(
-        "packets {}, cut at every byte {}",
-        tally.packets, tally.packets_cut
-    );
-    let counts = PACKET_NUMBERS.map(|number| tally.packet_numbers[number]);
-    for (number, count) in PACKET_NUMBERS.iter().zip(counts) {
-        println!("packets, number {number}: {count} times");
+/// Prints how often each number was met; whether one never was.
+fn never_met(what: &str, numbers: &[usize], counts: &[u64]) -> bool {
+    for &number in numbers {
+        println!("{what}, number {number}: {} times", counts[number]);
     }
-    tally.packets_cut == 0 || counts.contains(&0)
-}
-
-/// Whether a number of logs, or a sort of log, was never met.
-fn logs_never(tally: &Tally) -> bool {
-    let sorts = [
-        tally.logs_in_parts,
-        tally.logs_bad_everywhere,
-        tally.logs_of_walks,
-    ];
-    let [parts, everywhere, walks] = sorts;
-    println!(
-        "logs {}, added in parts {parts}, bad at every byte {everywhere}, of walks {walks}",
-        tally.logs
-    );
-    let counts = LOG_NUMBERS.map(|number| tally.log_numbers[number]);
-    for (number, count) in LOG_NUMBERS.iter().zip(counts) {
-        println!("logs, number {number}: {count} times");
-    }
-    sorts.contains(&0) || counts.contains(&0)
+    numbers.iter().any(|&number| counts[number] == 0)
 }
 
 fn print_found(found: &Found) {
