@@ -36,7 +36,15 @@ impl Case<'_> {
         self.log_judged(log)?;
         let records = log.len() / RECORD;
         let any = self.random.below(records + 2);
-        let beyond = [records, records + 1, records + (1 << 60), usize::MAX];
+        // Beyond the end, some of which are small after narrowing or taken sixteen times.
+        let beyond = [
+            records,
+            1 << 8,
+            1 << 16,
+            1 << 32,
+            any + (1 << 60),
+            usize::MAX,
+        ];
         for n in [0, any].into_iter().chain(beyond) {
             self.log_entry(log, n)?;
         }
