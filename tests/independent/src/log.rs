@@ -20,7 +20,9 @@ pub const ROWS: usize = 16;
 const FIRST_LOST_ROW: usize = 4;
 const IDLE_ROW: usize = 15;
 /// Bytes of a sheet: the rows, frames missing as a high and a low part, and the last frame met.
-pub const SHEET: usize = 8 * (ROWS + 2) + 2;
+pub const SHEET: usize = MET + 2;
+/// Whether a frame was met, and behind it the last one's FCT.
+const MET: usize = 8 * (ROWS + 2);
 /// What one of the high part of frames missing stands for.
 pub const HIGH: u128 = 1_000_000_000;
 
@@ -165,29 +167,36 @@ impl Sheet {
         bytes
     }
 
-    /// The sheet in lent bytes, unless it cannot go on.
-    pub fn of(bytes: &[u8]) -> Option<Sheet> {
-        let number = |n: usize| {
-            let part = bytes[8 * n..].first_chunk().copied();
-            u64::from_be_bytes(part.unwrap_or_default())
-        };
-        let (high, low) = (u128::from(number(ROWS)), u128::from(number(ROWS + 1)));
-        let (met, fct) = (bytes[SHEET - 2], bytes[SHEET - 1]);
+    pub fn of(bytes: &[u8]) -> Sheet {
+        let numbers = numbers(bytes);
         let mut rows = [0; ROWS];
-        for (n, row) in rows.iter_mut().enumerate() {
-            *row = number(n);
-        }
-        goes_on(low, met, fct).then_some(Sheet {
+        rows.copy_from_slice(&numbers[..ROWS]);
+        let (high, low) = (u128::from(numbers[ROWS]), u128::from(numbers[ROWS + 1]));
+        Sheet {
             rows,
             missing: high * HIGH + low,
-            last: (met == 1).then_some(fct),
-        })
+            last: (bytes[MET] == 1).then_some(bytes[MET + 1]),
+        }
     }
 }
 
-/// Whether a sheet with this low part of frames missing and this last frame can be gone on with.
-fn goes_on(low: u128, met: u8, fct: u8) -> bool {
-    low < HIGH && met <= 1 && fct <= MOST_FCT && (met == 1 || fct == 0)
+/// The rows of a sheet, and the high and the low part of frames missing.
+fn numbers(bytes: &[u8]) -> Vec<u64> {
+    let number = |part: &[u8]| part.iter().fold(0, |sum, &byte| sum << 8 | u64::from(byte));
+    bytes[..MET].chunks(8).map(number).collect()
+}
+
+/// Whether so many records can be added to a lent sheet: to each row and to the high part, whichever they count in; the low part and the last frame must be such as a sheet has.
+fn goes_on(bytes: &[u8], records: usize) -> bool {
+    let numbers = numbers(bytes);
+    let (low, totals) = numbers.split_last().expect("a sheet has eighteen numbers");
+    let room = |total: &u64| total.checked_add(records as u64).is_some();
+    let last = match bytes[MET..] {
+        [0, fct] => fct == 0,
+        [met, fct] => met == 1 && fct <= MOST_FCT,
+        _ => false,
+    };
+    totals.iter().all(room) && u128::from(*low) < HIGH && last
 }
 
 /// Frames missing between two that follow each other: the difference less one, modulo 250.
@@ -204,9 +213,10 @@ pub fn sheet(log: &[u8], lent: &mut [u8]) -> u8 {
         Ok(entries) => entries,
         Err(bad) => return bad.number(),
     };
-    let Some(mut sheet) = Sheet::of(lent) else {
+    if !goes_on(lent, entries.len()) {
         return 12;
-    };
+    }
+    let mut sheet = Sheet::of(lent);
     for entry in &entries {
         sheet.add(entry);
     }

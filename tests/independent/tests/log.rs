@@ -39,7 +39,7 @@ fn log(entries: &[Entry]) -> Vec<u8> {
 fn sheet_of(log: &[u8]) -> Sheet {
     let mut bytes = vec![0; SHEET];
     assert_eq!(sheet(log, &mut bytes), 0);
-    Sheet::of(&bytes).unwrap()
+    Sheet::of(&bytes)
 }
 
 fn missing(fcts: &[u8]) -> u128 {
@@ -235,4 +235,29 @@ fn log_of_a_record() {
     assert_eq!(entries, expected);
     let sheet = sheet_of(&log(&entries));
     assert_eq!((sheet.rows[0], sheet.rows[6], sheet.missing), (3, 1, 1));
+}
+
+/// Sheets that cannot go on: no room for as many as the log's records, or a last frame that cannot be.
+#[test]
+fn sheets_refused() {
+    let added = |at: usize, part: &[u8], log: &[u8]| {
+        let mut lent = vec![0; SHEET];
+        lent[at..at + part.len()].copy_from_slice(part);
+        let before = lent.clone();
+        let number = sheet(log, &mut lent);
+        assert!(number == 0 || lent == before);
+        number
+    };
+    let two = log(&[frame(1), frame(2)]);
+    for total in (0..17).map(|n| 8 * n) {
+        assert_eq!(added(total, &(u64::MAX - 1).to_be_bytes(), &two), 12);
+        assert_eq!(added(total, &(u64::MAX - 2).to_be_bytes(), &two), 0);
+        assert_eq!(added(total, &u64::MAX.to_be_bytes(), &[]), 0);
+    }
+    assert_eq!(added(136, &1_000_000_000_u64.to_be_bytes(), &[]), 12);
+    assert_eq!(added(136, &999_999_999_u64.to_be_bytes(), &[]), 0);
+    for (last, expected) in [([0, 1], 12), ([1, 249], 0), ([1, 250], 12), ([2, 0], 12)] {
+        assert_eq!(added(144, &last, &two), expected);
+        assert_eq!(added(144, &last, &two[1..]), 28);
+    }
 }

@@ -153,10 +153,16 @@ pub fn lent_sheet(random: &mut Random) -> Vec<u8> {
     sheet.bytes()
 }
 
-/// Mostly a sheet that cannot be gone on with: a low part of frames missing, a mark or an FCT outside its range, or an FCT of no frame.
+/// Mostly a sheet that cannot be gone on with: a total with little room, a low part of frames missing, a mark or an FCT outside its range, or an FCT of no frame.
 pub fn spoiled_sheet(random: &mut Random) -> Vec<u8> {
     let mut bytes = lent_sheet(random);
-    match random.below(4) {
+    match random.below(5) {
+        4 => {
+            let total = 8 * random.below(ROWS + 1);
+            let any = random.below(250) as u64;
+            let room = random.pick(&[0, 1, 2, 3, any]);
+            bytes[total..total + 8].copy_from_slice(&(u64::MAX - room).to_be_bytes());
+        }
         0 => {
             let low = random.pick(&[HIGH as u64, HIGH as u64 - 1, 1 << 32, u64::MAX]);
             bytes[SHEET - 10..SHEET - 2].copy_from_slice(&low.to_be_bytes());
