@@ -1,10 +1,8 @@
 //! One case through the proved exports and through this implementation.
 
 mod chains;
-#[cfg(feature = "sheets")]
 mod logs;
 mod looks;
-#[cfg(feature = "packets")]
 mod packets;
 mod profiles;
 mod reasons;
@@ -182,14 +180,8 @@ pub fn check(sort: Sort, seed: u64, number: u64, tally: &mut Tally) -> Checked<(
         Sort::Chain => case.chain(),
         Sort::Places => case.every_place(),
         Sort::Profile => case.profile(),
-        #[cfg(feature = "packets")]
         Sort::Packet => case.packet(),
-        #[cfg(not(feature = "packets"))]
-        Sort::Packet => Ok(()),
-        #[cfg(feature = "sheets")]
         Sort::Log => case.log(),
-        #[cfg(not(feature = "sheets"))]
-        Sort::Log => Ok(()),
     }
 }
 

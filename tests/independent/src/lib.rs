@@ -13,10 +13,10 @@ pub mod line;
 pub mod line_abi;
 pub mod listing;
 pub mod log;
-#[cfg(feature = "sheets")]
+#[cfg(feature = "proved")]
 pub mod logs_abi;
 pub mod looks;
-#[cfg(feature = "packets")]
+#[cfg(feature = "proved")]
 pub mod packets_abi;
 pub mod profile;
 pub mod reed_solomon;

@@ -173,24 +173,20 @@ fn report(tally: &Tally) -> ExitCode {
     never |= never_met("signalling", &SIGNAL_NUMBERS, &tally.signal_numbers);
     println!("profiles {}", tally.profiles);
     never |= never_met("profiles", &PROFILE_NUMBERS, &tally.profile_numbers);
-    if cfg!(feature = "packets") {
-        let (packets, cut) = (tally.packets, tally.packets_cut);
-        println!("packets {packets}, cut at every byte {cut}");
-        never |= never_met("packets", &PACKET_NUMBERS, &tally.packet_numbers) || cut == 0;
-    }
-    if cfg!(feature = "sheets") {
-        let sorts = [
-            tally.logs_in_parts,
-            tally.logs_bad_everywhere,
-            tally.logs_of_walks,
-        ];
-        let [parts, bad, walks] = sorts;
-        println!(
-            "logs {}, added in parts {parts}, bad at every byte {bad}, of walks {walks}",
-            tally.logs
-        );
-        never |= never_met("logs", &LOG_NUMBERS, &tally.log_numbers) || sorts.contains(&0);
-    }
+    let (packets, cut) = (tally.packets, tally.packets_cut);
+    println!("packets {packets}, cut at every byte {cut}");
+    never |= never_met("packets", &PACKET_NUMBERS, &tally.packet_numbers) || cut == 0;
+    let sorts = [
+        tally.logs_in_parts,
+        tally.logs_bad_everywhere,
+        tally.logs_of_walks,
+    ];
+    let [parts, bad, walks] = sorts;
+    println!(
+        "logs {}, added in parts {parts}, bad at every byte {bad}, of walks {walks}",
+        tally.logs
+    );
+    never |= never_met("logs", &LOG_NUMBERS, &tally.log_numbers) || sorts.contains(&0);
     let chains = [
         ("chains", tally.chains),
         ("relays in chains", tally.relays),
