@@ -1,9 +1,11 @@
 //! One case through the proved exports and through this implementation.
 
 mod chains;
+mod logs;
 mod looks;
-mod reasons;
+mod packets;
 mod profiles;
+mod reasons;
 mod signals;
 
 use crate::abi;
@@ -65,6 +67,18 @@ pub struct Tally {
     pub signals: u64,
     /// Messages, at 0, and drops and refusals of signalling by their number.
     pub signal_numbers: [u64; 37],
+    pub packets: u64,
+    /// Packets by their number.
+    pub packet_numbers: [u64; 36],
+    /// Packets that were cut at every byte.
+    pub packets_cut: u64,
+    pub logs: u64,
+    /// Answers about logs and sheets by their number.
+    pub log_numbers: [u64; 38],
+    /// Logs added in parts, made bad at every byte, and written from a walk's items.
+    pub logs_in_parts: u64,
+    pub logs_bad_everywhere: u64,
+    pub logs_of_walks: u64,
 }
 
 impl Default for Tally {
@@ -89,6 +103,14 @@ impl Default for Tally {
             profile_numbers: [0; 34],
             signals: 0,
             signal_numbers: [0; 37],
+            packets: 0,
+            packet_numbers: [0; 36],
+            packets_cut: 0,
+            logs: 0,
+            log_numbers: [0; 38],
+            logs_in_parts: 0,
+            logs_bad_everywhere: 0,
+            logs_of_walks: 0,
         }
     }
 }
@@ -114,6 +136,14 @@ impl AddAssign<&Tally> for Tally {
         add_each(&mut self.profile_numbers, &other.profile_numbers);
         self.signals += other.signals;
         add_each(&mut self.signal_numbers, &other.signal_numbers);
+        self.packets += other.packets;
+        add_each(&mut self.packet_numbers, &other.packet_numbers);
+        self.packets_cut += other.packets_cut;
+        self.logs += other.logs;
+        add_each(&mut self.log_numbers, &other.log_numbers);
+        self.logs_in_parts += other.logs_in_parts;
+        self.logs_bad_everywhere += other.logs_bad_everywhere;
+        self.logs_of_walks += other.logs_of_walks;
     }
 }
 
@@ -123,8 +153,9 @@ fn add_each(to: &mut [u64], from: &[u64]) {
     }
 }
 
-/// A case under way: its random numbers, its kind for a report, and what is counted.
+/// A case under way: its own number, its random numbers, its kind for a report, and what is counted.
 struct Case<'a> {
+    number: u64,
     random: Random,
     kind: String,
     tally: &'a mut Tally,
@@ -136,6 +167,7 @@ type Expected = Result<Vec<u8>, u8>;
 
 pub fn check(sort: Sort, seed: u64, number: u64, tally: &mut Tally) -> Checked<()> {
     let mut case = Case {
+        number,
         random: Random::new(seed, sort, number),
         kind: String::new(),
         tally,
@@ -148,6 +180,8 @@ pub fn check(sort: Sort, seed: u64, number: u64, tally: &mut Tally) -> Checked<(
         Sort::Chain => case.chain(),
         Sort::Places => case.every_place(),
         Sort::Profile => case.profile(),
+        Sort::Packet => case.packet(),
+        Sort::Log => case.log(),
     }
 }
 

@@ -1,10 +1,13 @@
-//! Seeded cases: frames, field sets for writing, records, frames with signalling, chains of relays, records whose every place is asked about, and tables for the profile.
+//! Seeded cases: frames, field sets for writing, records, frames with signalling, chains of relays, records whose every place is asked about, tables for the profile, EDI packets, and fault logs.
 
 pub mod chains;
 pub mod frames;
+pub mod logs;
+pub mod packets;
 pub mod profiles;
 pub mod records;
 pub mod signals;
+pub mod tags;
 pub mod writings;
 
 /// What a case is of; each sort draws from its own random bytes.
@@ -17,6 +20,8 @@ pub enum Sort {
     Chain = 5,
     Places = 6,
     Profile = 7,
+    Packet = 8,
+    Log = 9,
 }
 
 /// Splitmix64.

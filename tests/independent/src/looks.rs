@@ -1,41 +1,35 @@
-//! How often a walk puts the acceptance test to a place (T-11), counted place by place.
+//! How many times a walk puts the acceptance test to a place.
 
 use crate::frame::{fsync1, judge, FRAME, NULL_TRANSMISSION};
 use crate::walk::{LIMITS, LIMIT_OUTSIDE};
 
-/// The count for the walk over a record with a limit, or the limit's refusal.
+/// Counted over the whole walk. A place whose 6,144 bytes do not exist is not tested, nor a confirming place if the first does not stand; a place tested as a confirmation and later in its own right counts twice.
 pub fn looks(record: &[u8], limit: usize) -> Result<u64, u8> {
     if !LIMITS.contains(&limit) {
         return Err(LIMIT_OUTSIDE);
     }
-    let mut count = 0;
+    let mut tests = 0;
+    let mut test = |place: usize| {
+        let frame = record.get(place..)?.get(..FRAME)?;
+        tests += 1;
+        Some(judge(frame))
+    };
+    let other_sync = |place: usize| fsync1(&record[place..]) != fsync1(&record[place + FRAME..]);
     let mut place = 0;
-    // In lock, and the misses in a row.
-    let mut lock: Option<usize> = None;
-    while let Some(number) = tested(record, place, &mut count) {
-        let (next, step) = match lock {
-            Some(_) if number == 0 || number == NULL_TRANSMISSION => (Some(0), FRAME),
-            Some(misses) if misses + 1 < limit => (Some(misses + 1), FRAME),
-            None if number == 0 && confirmed(record, place, &mut count) => (Some(0), FRAME),
-            // A lock lost, or a place hunted over.
-            Some(_) | None => (None, 1),
+    // How many more misses the lock bears; none are left while hunting.
+    let mut left = 0;
+    while let Some(number) = test(place) {
+        left = if left > 0 {
+            match number {
+                0 | NULL_TRANSMISSION => limit,
+                _ => left - 1,
+            }
+        } else if number == 0 && test(place + FRAME) == Some(0) && other_sync(place) {
+            limit
+        } else {
+            0
         };
-        lock = next;
-        place += step;
+        place += if left > 0 { FRAME } else { 1 };
     }
-    Ok(count)
-}
-
-/// The refusal number of a place, which is one test; none, and no test, where its 6,144 bytes do not exist.
-fn tested(record: &[u8], place: usize, count: &mut u64) -> Option<u8> {
-    let frame = record.get(place..)?.get(..FRAME)?;
-    *count += 1;
-    Some(judge(frame))
-}
-
-/// Whether the period behind a place that stands confirms it.
-fn confirmed(record: &[u8], place: usize, count: &mut u64) -> bool {
-    let behind = place + FRAME;
-    tested(record, behind, count) == Some(0)
-        && fsync1(&record[place..]) != fsync1(&record[behind..])
+    Ok(tests)
 }

@@ -1,33 +1,70 @@
-//! The final-stage profile: sub-channels of an accepted frame in the capacity units, by a map of the units.
+//! The profile of the final stage: SCIDs, and sub-channels in the capacity units of a DAB frame (clause 5.4.1.3 and EN 300 401).
 
 use crate::frame::{read, Stream};
 
+/// Capacity units of a DAB frame, numbered from 0.
 pub const UNITS: usize = 864;
 pub const EQUAL_SCIDS: u8 = 30;
 pub const NO_SIZE: u8 = 31;
 pub const BEYOND: u8 = 32;
 pub const OVERLAP: u8 = 33;
 
-/// Unequal protection: rate in kbit/s, and the sizes at levels 5, 4, 3, 2, 1.
-#[rustfmt::skip]
+/// Unequal protection: by bit rate in kbit/s, the sizes at levels 5, 4, 3, 2 and 1.
 pub const UNEQUAL: [(usize, [Option<usize>; 5]); 14] = [
-    (32, [Some(16), Some(21), Some(24), Some(29), Some(35)]),
-    (48, [Some(24), Some(29), Some(35), Some(42), Some(52)]),
-    (56, [Some(29), Some(35), Some(42), Some(52), None]),
-    (64, [Some(32), Some(42), Some(48), Some(58), Some(70)]),
-    (80, [Some(40), Some(52), Some(58), Some(70), Some(84)]),
-    (96, [Some(48), Some(58), Some(70), Some(84), Some(104)]),
-    (112, [Some(58), Some(70), Some(84), Some(104), None]),
-    (128, [Some(64), Some(84), Some(96), Some(116), Some(140)]),
-    (160, [Some(80), Some(104), Some(116), Some(140), Some(168)]),
-    (192, [Some(96), Some(116), Some(140), Some(168), Some(208)]),
-    (224, [Some(116), Some(140), Some(168), Some(208), Some(232)]),
-    (256, [Some(128), Some(168), Some(192), Some(232), Some(280)]),
-    (320, [Some(160), Some(208), None, Some(280), None]),
-    (384, [Some(192), None, Some(280), None, Some(416)]),
+    (32, sizes([16, 21, 24, 29, 35])),
+    (48, sizes([24, 29, 35, 42, 52])),
+    (56, sizes([29, 35, 42, 52, 0])),
+    (64, sizes([32, 42, 48, 58, 70])),
+    (80, sizes([40, 52, 58, 70, 84])),
+    (96, sizes([48, 58, 70, 84, 104])),
+    (112, sizes([58, 70, 84, 104, 0])),
+    (128, sizes([64, 84, 96, 116, 140])),
+    (160, sizes([80, 104, 116, 140, 168])),
+    (192, sizes([96, 116, 140, 168, 208])),
+    (224, sizes([116, 140, 168, 208, 232])),
+    (256, sizes([128, 168, 192, 232, 280])),
+    (320, sizes([160, 208, 0, 280, 0])),
+    (384, sizes([192, 0, 280, 0, 416])),
 ];
 
-/// What is wrong, and with which streams of the table: one alone stands there twice.
+/// Where there is no size, 0 is given.
+const fn sizes(given: [usize; 5]) -> [Option<usize>; 5] {
+    let mut sizes = [None; 5];
+    let mut at = 0;
+    while at < 5 {
+        if given[at] > 0 {
+            sizes[at] = Some(given[at]);
+        }
+        at += 1;
+    }
+    sizes
+}
+
+/// Equal protection: the sizes at levels 1 to 4 of 8 kbit/s with option A, and of 32 kbit/s with option B.
+const EQUAL_A: [usize; 4] = [12, 8, 6, 4];
+const EQUAL_B: [usize; 4] = [27, 21, 18, 15];
+
+/// Capacity units of a sub-channel with this protection and length, if there is such a one.
+pub fn size(tpl: u8, stl: u16) -> Option<usize> {
+    let stl = usize::from(stl);
+    if tpl & 0b10_0000 == 0 {
+        // The reserved bit is not judged; the other table of the switch is reserved.
+        let (switch, index) = (tpl & 0b00_1000, usize::from(tpl & 0b111));
+        let (_, sizes) = UNEQUAL.iter().find(|(rate, _)| 3 * rate == 8 * stl)?;
+        let size = sizes.iter().rev().nth(index)?;
+        size.filter(|_| switch == 0)
+    } else {
+        let level = usize::from(tpl & 0b11);
+        let (size, words) = match tpl >> 2 & 0b111 {
+            0 => (EQUAL_A[level], 3),
+            1 => (EQUAL_B[level], 12),
+            _ => return None,
+        };
+        (stl % words == 0).then_some(stl / words * size)
+    }
+}
+
+/// The profile's number, and the places in the table of the streams that it is about: 0 both times where it is 0, and the same twice where it is about one.
 #[derive(Clone, Copy, Debug, PartialEq, Eq)]
 pub struct Collision {
     pub number: u8,
@@ -35,79 +72,7 @@ pub struct Collision {
     pub second: usize,
 }
 
-/// The size in capacity units, if there is one.
-pub fn size(tpl: u8, stl: u16) -> Option<usize> {
-    let stl = usize::from(stl);
-    let bits: Vec<u8> = (0..6).map(|bit| tpl >> (5 - bit) & 1).collect();
-    let number = |bits: &[u8]| bits.iter().fold(0, |n, &bit| 2 * n + usize::from(bit));
-    if bits[0] == 0 {
-        let (switch, level) = (bits[2], number(&bits[3..]) + 1);
-        if switch == 1 || level > 5 {
-            return None;
-        }
-        let (_, sizes) = UNEQUAL.iter().find(|(rate, _)| rate * 3 == stl * 8)?;
-        return sizes[5 - level];
-    }
-    let (option, level) = (number(&bits[1..4]), number(&bits[4..]) + 1);
-    let (multiple, each) = match option {
-        0 => (3, [12, 8, 6, 4]),
-        1 => (12, [27, 21, 18, 15]),
-        _ => return None,
-    };
-    (stl % multiple == 0).then(|| stl / multiple * each[level - 1])
-}
-
-/// The profile of a table's streams, `None` if they pass.
-pub fn collision(streams: &[Stream]) -> Option<Collision> {
-    let found = |number, first, second| {
-        Some(Collision {
-            number,
-            first,
-            second,
-        })
-    };
-    for (i, one) in streams.iter().enumerate() {
-        let equal = |other: &Stream| other.scid == one.scid;
-        if let Some(behind) = streams[i + 1..].iter().position(equal) {
-            return found(EQUAL_SCIDS, i, i + 1 + behind);
-        }
-    }
-    let carrying = |stream: &&Stream| stream.stl > 0;
-    let sizeless = |stream: &Stream| stream.stl > 0 && size(stream.tpl, stream.stl).is_none();
-    if let Some(i) = streams.iter().position(sizeless) {
-        return found(NO_SIZE, i, i);
-    }
-    let units = |stream: &Stream| match Some(stream).filter(carrying) {
-        Some(stream) => {
-            let sad = usize::from(stream.sad);
-            sad..sad + size(stream.tpl, stream.stl).unwrap_or(0)
-        }
-        None => 0..0,
-    };
-    let beyond = |stream: &Stream| units(stream).any(|unit| unit >= UNITS);
-    if let Some(i) = streams.iter().position(beyond) {
-        return found(BEYOND, i, i);
-    }
-    // Who has each unit, in table order; the pairs that share one.
-    let mut owners = vec![Vec::new(); UNITS];
-    for (i, stream) in streams.iter().enumerate() {
-        for unit in units(stream) {
-            owners[unit].push(i);
-        }
-    }
-    let pairs = owners.iter().flat_map(|owners| {
-        let later = move |k: usize| {
-            owners[k + 1..]
-                .iter()
-                .map(move |&second| (owners[k], second))
-        };
-        (0..owners.len()).flat_map(later)
-    });
-    let (first, second) = pairs.min()?;
-    found(OVERLAP, first, second)
-}
-
-/// A frame's profile: reading's refusal, or what is wrong with its streams; number 0, and streams 0 and 0, if it passes.
+/// Reading's refusal, or what the profile says of the frame.
 pub fn profile(frame: &[u8]) -> Result<Collision, u8> {
     let reading = read(frame)?;
     let streams = &reading.table[..usize::from(reading.header.nst)];
@@ -116,4 +81,45 @@ pub fn profile(frame: &[u8]) -> Result<Collision, u8> {
         first: 0,
         second: 0,
     }))
+}
+
+/// The first rule that is broken, each judged over all streams before the next.
+pub fn collision(streams: &[Stream]) -> Option<Collision> {
+    // Streams of no length take no units.
+    let taking = |at: &usize| streams[*at].stl > 0;
+    let sized = |at: usize| size(streams[at].tpl, streams[at].stl);
+    let units = |at: usize| {
+        let start = usize::from(streams[at].sad);
+        start..start + sized(at).unwrap_or(0)
+    };
+    let all = || 0..streams.len();
+    let pair = |number: u8, breaks: &dyn Fn(usize, usize) -> bool| {
+        let mut pairs =
+            all().flat_map(|first| (first + 1..streams.len()).map(move |second| (first, second)));
+        let (first, second) = pairs.find(|&(first, second)| breaks(first, second))?;
+        Some(Collision {
+            number,
+            first,
+            second,
+        })
+    };
+    let one = |number: u8, breaks: &dyn Fn(usize) -> bool| {
+        let first = all().filter(taking).find(|&at| breaks(at))?;
+        Some(Collision {
+            number,
+            first,
+            second: first,
+        })
+    };
+    pair(EQUAL_SCIDS, &|first, second| {
+        streams[first].scid == streams[second].scid
+    })
+    .or_else(|| one(NO_SIZE, &|at| sized(at).is_none()))
+    .or_else(|| one(BEYOND, &|at| units(at).end > UNITS))
+    .or_else(|| {
+        pair(OVERLAP, &|first, second| {
+            let both = taking(&first) && taking(&second);
+            both && units(first).any(|unit| units(second).contains(&unit))
+        })
+    })
 }

@@ -1,240 +1,157 @@
-//! T-08: signalling groups of four frames' MNSC bytes, messages strung of them, and the way back. A whole list of frames at a time.
+//! Signalling groups from the MNSC bytes of consecutive frames, and messages from asynchronous groups (clause 5.5.1, annex A.3).
 
 use crate::sum::sum;
 
-/// Refusals.
-pub const OUT_OF_PHASE: u8 = 24;
-pub const OUT_OF_TURN: u8 = 25;
-pub const WRONG_SUM: u8 = 26;
-pub const NOT_CARRIED: u8 = 36;
-/// Message bytes of the longest message: 4 + 255 × 6 + 4.
-pub const MOST_BYTES: usize = 1538;
-
 pub type Group = [u8; 8];
+/// Bytes of the longest message: four of its start, six of each of 255 continuations, four of its end.
+pub const MOST_BYTES: usize = 4 + 6 * 255 + 4;
 
-/// What signalling sees of a frame.
+/// The refusal numbers of a phase and of a group out of turn, of a wrong closing sum, and of a length that the groups cannot carry.
+const PHASE: u8 = 24;
+const TURN: u8 = 25;
+const SUM: u8 = 26;
+const LENGTH: u8 = 36;
+
+/// First bytes of the groups, their reserved bits zero (table 23).
+const START: u8 = 0b1100_0000;
+const CONTINUATION: u8 = 0b1100_0011;
+const END: u8 = 0b1100_1100;
+
+/// What a frame brings.
 #[derive(Clone, Copy, Debug, PartialEq, Eq)]
 pub struct Frame {
     pub fp: u8,
     pub mnsc: u16,
 }
 
-impl Frame {
-    fn phase(self) -> usize {
-        usize::from(self.fp & 3)
-    }
-}
-
 #[derive(Clone, Debug, PartialEq, Eq)]
 pub enum Item {
+    /// Type and message bytes.
     Message(u8, Vec<u8>),
+    /// A group or message dropped, with the number.
     Drop(u8),
 }
 
-/// An item, and the number of the frame that it comes with.
+/// An item, and the number of the frame that gave it.
 pub type Told = (usize, Item);
 
-/// Whole groups, and `None` for a dropped one, each with the number of the frame that decides it.
-pub fn groups(frames: &[Frame]) -> Vec<(usize, Option<Group>)> {
-    let mut groups = Vec::new();
-    let mut told = false;
-    let mut at = 0;
-    while at < frames.len() {
-        let rest = &frames[at..];
-        let in_turn = rest
-            .iter()
-            .take(4)
-            .enumerate()
-            .take_while(|(turn, frame)| frame.phase() == *turn)
-            .count();
-        if in_turn == 4 {
-            groups.push((at + 3, Some(eight(rest))));
-            told = false;
-            at += 4;
-        } else if at + in_turn == frames.len() {
-            break;
-        } else if in_turn > 0 {
-            groups.push((at + in_turn, None));
-            told = true;
-            at += in_turn;
-        } else {
-            if !told {
-                groups.push((at, None));
-            }
-            told = true;
-            at += 1;
+/// What the frames give, one behind the other from the beginning.
+pub fn items(frames: &[Frame]) -> Vec<Told> {
+    let mut gathered = Gathered::Pairs(Vec::new());
+    let mut open = Vec::new();
+    let mut item = |frame: &Frame| match gathered.take(frame) {
+        Ok(whole) => whole.and_then(|group| strung(&mut open, group)),
+        Err(number) => Some(Item::Drop(number)),
+    };
+    let told = |(n, frame)| Some((n, item(frame)?));
+    frames.iter().enumerate().filter_map(told).collect()
+}
+
+/// The byte pairs of a group so far; or, after a drop, nothing until a phase 0.
+enum Gathered {
+    Pairs(Vec<u8>),
+    Waiting,
+}
+
+impl Gathered {
+    /// The group that the frame makes whole, or the number of a drop.
+    fn take(&mut self, frame: &Frame) -> Result<Option<Group>, u8> {
+        let phase = usize::from(frame.fp % 4);
+        let mut out_of_turn = false;
+        if let Gathered::Pairs(pairs) = self {
+            out_of_turn = pairs.len() != 2 * phase;
+        }
+        if phase == 0 {
+            *self = Gathered::Pairs(Vec::new());
+        } else if out_of_turn {
+            *self = Gathered::Waiting;
+        }
+        let mut whole = None;
+        if let Gathered::Pairs(pairs) = self {
+            pairs.extend(frame.mnsc.to_be_bytes());
+            whole = Group::try_from(&pairs[..]).ok();
+        }
+        if whole.is_some() {
+            *self = Gathered::Pairs(Vec::new());
+        }
+        match out_of_turn {
+            true => Err(PHASE),
+            false => Ok(whole),
         }
     }
-    groups
 }
 
-fn eight(frames: &[Frame]) -> Group {
-    let mut group = [0; 8];
-    for (pair, frame) in group.chunks_mut(2).zip(frames) {
-        pair.copy_from_slice(&frame.mnsc.to_be_bytes());
-    }
-    group
-}
-
-/// The items of a list of frames.
-pub fn items(frames: &[Frame]) -> Vec<Told> {
-    let mut items = Vec::new();
-    // the groups of the open message
-    let mut open: Vec<Group> = Vec::new();
-    for (number, group) in groups(frames) {
-        let item = match group {
-            None => Some(Item::Drop(OUT_OF_PHASE)),
-            Some(group) => strung(&mut open, group),
-        };
-        items.extend(item.map(|item| (number, item)));
-    }
-    items
-}
-
+/// Strings one group more onto those of the open message, which are its start and continuations; there are none if no message is open.
 fn strung(open: &mut Vec<Group>, group: Group) -> Option<Item> {
-    let left = open
+    let due = open
         .first()
         .map(|start| usize::from(start[3]) + 1 - open.len());
-    match (group[0] >> 6, group[0] & 0x0F, left) {
-        (0b11, 0b0000, _) => {
-            let other = !open.is_empty();
+    // The bits that are reserved are not looked at.
+    match (group[0] & 0b1100_1111, due) {
+        (START, _) => {
             *open = vec![group];
-            other.then_some(Item::Drop(OUT_OF_TURN))
+            due.map(|_| Item::Drop(TURN))
         }
-        (0b11, 0b0011, Some(1..)) => {
+        (CONTINUATION, Some(1..)) => {
             open.push(group);
             None
         }
-        (0b11, 0b1100, Some(0)) => Some(closed(&std::mem::take(open), group)),
-        (0b11, 0b0011 | 0b1100, _) => {
+        (END, Some(0)) => Some(closed(std::mem::take(open), group)),
+        (CONTINUATION | END, _) => {
             open.clear();
-            Some(Item::Drop(OUT_OF_TURN))
+            Some(Item::Drop(TURN))
         }
         _ => None,
     }
 }
 
-fn closed(groups: &[Group], end: Group) -> Item {
-    let covered = [&groups.concat()[..], &end[..6]].concat();
-    if sum(&covered).to_be_bytes() != end[6..] {
-        return Item::Drop(WRONG_SUM);
+/// The message of its groups, unless the closing sum is wrong.
+fn closed(groups: Vec<Group>, end: Group) -> Item {
+    let before: Vec<u8> = groups.concat();
+    let summed = [&before[..], &end[..6]].concat();
+    if sum(&summed).to_be_bytes() != end[6..] {
+        return Item::Drop(SUM);
     }
-    let mut bytes = groups[0][4..].to_vec();
-    for continuation in &groups[1..] {
-        bytes.extend(&continuation[2..]);
-    }
+    let (start, continuations) = groups
+        .split_first()
+        .expect("a message begins with its start");
+    let mut bytes = start[4..].to_vec();
+    bytes.extend(continuations.iter().flat_map(|group| &group[2..]));
     bytes.extend(&end[2..6]);
-    Item::Message(groups[0][2], bytes)
+    Item::Message(start[2], bytes)
 }
 
-/// The way back: the bytes of the frames' pairs, for an output of so many bytes.
+/// The way back: the byte pairs that carry a message, into an output of so many bytes.
 pub fn send(kind: u8, message: &[u8], out: usize) -> Result<Vec<u8>, u8> {
-    let Some(count) = (0..=255_u8).find(|&n| message.len() == 8 + 6 * usize::from(n)) else {
-        return Err(NOT_CARRIED);
-    };
-    let mut bytes = vec![0xC0, 0, kind, count];
-    bytes.extend(&message[..4]);
-    let (middle, end) = message[4..].split_at(message.len() - 8);
-    for six in middle.chunks(6) {
-        bytes.extend([0xC3, 0]);
-        bytes.extend(six);
+    let split = message.split_first_chunk::<4>();
+    let (start, rest) = split.ok_or(LENGTH)?;
+    let (middle, end) = rest.split_last_chunk::<4>().ok_or(LENGTH)?;
+    let continuations = middle.chunks_exact(6);
+    if !continuations.remainder().is_empty() {
+        return Err(LENGTH);
     }
-    bytes.extend([0xCC, 0]);
+    let number = u8::try_from(continuations.len()).map_err(|_| LENGTH)?;
+    let mut bytes = [&[START, 0, kind, number][..], start].concat();
+    for part in continuations {
+        bytes.extend([CONTINUATION, 0]);
+        bytes.extend(part);
+    }
+    bytes.extend([END, 0]);
     bytes.extend(end);
-    let closing = sum(&bytes);
-    bytes.extend(closing.to_be_bytes());
-    if out == bytes.len() {
-        Ok(bytes)
-    } else {
-        Err(1)
+    bytes.extend(sum(&bytes).to_be_bytes());
+    match bytes.len() == out {
+        true => Ok(bytes),
+        false => Err(1),
     }
 }
 
-/// Byte pairs in frames, the first with phase 0.
+/// The frames that carry these byte pairs, from a phase 0 on.
 pub fn frames(bytes: &[u8]) -> Vec<Frame> {
-    let pairs = bytes.chunks(2).enumerate();
+    let pairs = bytes.chunks_exact(2).zip((0..8).cycle());
     pairs
-        .map(|(number, pair)| Frame {
-            fp: (number % 8) as u8,
+        .map(|(pair, fp)| Frame {
+            fp,
             mnsc: u16::from_be_bytes([pair[0], pair[1]]),
         })
         .collect()
-}
-
-#[cfg(test)]
-mod tests {
-    use super::*;
-
-    fn message(length: usize) -> Vec<u8> {
-        (0..length).map(|byte| byte as u8).collect()
-    }
-
-    fn sent(length: usize) -> Vec<Frame> {
-        let out = 8 * ((length - 8) / 6 + 2);
-        frames(&send(7, &message(length), out).unwrap())
-    }
-
-    fn drops(items: &[Told]) -> Vec<u8> {
-        let number = |told: &Told| match told.1 {
-            Item::Drop(number) => number,
-            Item::Message(..) => 0,
-        };
-        items.iter().map(number).collect()
-    }
-
-    #[test]
-    fn there_and_back() {
-        for length in [8, 14, 20, 1538] {
-            let frames = sent(length);
-            let last = frames.len() - 1;
-            assert_eq!(items(&frames), [(last, Item::Message(7, message(length)))]);
-        }
-    }
-
-    #[test]
-    fn lengths_that_are_not_carried() {
-        for length in [0, 7, 9, 13, 15, 1537, 1539, 1544] {
-            assert_eq!(send(0, &message(length), 16), Err(36));
-        }
-        assert_eq!(send(0, &message(8), 15), Err(1));
-    }
-
-    #[test]
-    fn one_frame_left_out() {
-        let whole = sent(20);
-        let two = [whole.clone(), whole.clone()].concat();
-        for lost in 0..whole.len() {
-            let mut frames = two.clone();
-            frames.remove(lost);
-            let drops = drops(&items(&frames));
-            let expected: &[u8] = match lost / 4 {
-                0 => &[24, 25, 25, 25, 0],
-                _ => &[24, 25, 0],
-            };
-            assert_eq!(drops, expected);
-        }
-    }
-
-    #[test]
-    fn first_frame_with_another_phase() {
-        let mut frames = sent(8);
-        frames.splice(0..0, [Frame { fp: 2, mnsc: 0 }, Frame { fp: 3, mnsc: 0 }]);
-        assert_eq!(drops(&items(&frames)), [24, 0]);
-    }
-
-    #[test]
-    fn the_offending_phase_0_begins_afresh() {
-        let mut frames = sent(8);
-        frames.insert(0, Frame { fp: 0, mnsc: 0 });
-        assert_eq!(drops(&items(&frames)), [24, 0]);
-    }
-
-    #[test]
-    fn a_wrong_byte() {
-        for byte in 0..32 {
-            let mut bytes = send(7, &message(20), 32).unwrap();
-            bytes[byte] ^= 0x20;
-            assert!(!drops(&items(&super::frames(&bytes))).contains(&0));
-        }
-    }
 }

@@ -1,76 +1,85 @@
-//! Why a period was not aired: the reason for every place of a record, by a walk that looks at one place after another.
+//! Why a place of a record was not aired: how it fared in the walk from the record's beginning.
 
 use crate::frame::{fsync1, judge, FRAME, NULL_TRANSMISSION};
-use crate::walk::{stands, LIMITS, LIMIT_OUTSIDE};
+use crate::walk::{LIMITS, LIMIT_OUTSIDE};
 
-/// The refusal number of a place outside 0 to the record's length less 6,144.
+/// The refusal number of a place beyond the record's length less 6,144.
 pub const PLACE_OUTSIDE: u8 = 34;
 
 #[derive(Clone, Copy, Debug, PartialEq, Eq)]
 pub enum Reason {
     /// As a frame or an idle item.
     HandedOut,
+    /// In lock, with the refusal number.
     Lost(u8),
-    /// Hunted over.
+    /// Hunted over, with the refusal number.
     Refused(u8),
-    /// It stood, and the place a period on does not: named first of the two conditions.
+    /// Hunted over: it stood, but the place a period later does not.
     NotStanding,
+    /// Hunted over: it stood, and so does the place a period later, with the same sync word.
     SameSync,
-    /// In lock, from the item at this place.
+    /// Never come to, with the place of the item before it.
     SteppedOver(usize),
 }
+use Reason::*;
 
-/// The misses so far, while the walk is in lock.
-type Lock = Option<usize>;
-
-/// The reasons of all the record's places that have 6,144 bytes.
+/// The reason of every place from 0 to the record's length less 6,144.
 pub fn reasons(record: &[u8], limit: usize) -> Result<Vec<Reason>, u8> {
     if !LIMITS.contains(&limit) {
         return Err(LIMIT_OUTSIDE);
     }
     let places = (record.len() + 1).saturating_sub(FRAME);
     let mut reasons = Vec::with_capacity(places);
+    // Misses in a row while in lock.
     let mut lock = None;
-    while reasons.len() < places {
+    while let Some(frame) = period(record, reasons.len()) {
         let place = reasons.len();
-        let (reason, then) = match lock {
-            Some(misses) => in_lock(judge(&record[place..place + FRAME]), misses, limit),
-            None => hunting(record, place),
+        let reason = match lock {
+            None => hunted(frame, period(record, place + FRAME)),
+            Some(_) => met_in_lock(frame),
         };
         reasons.push(reason);
-        lock = then;
+        let misses = lock.unwrap_or(0) + 1;
+        lock = match reason {
+            HandedOut => Some(0),
+            Lost(_) if misses < limit => Some(misses),
+            _ => None,
+        };
         if lock.is_some() {
-            let next = (place + FRAME).min(places);
-            reasons.resize(next, Reason::SteppedOver(place));
+            reasons.resize(places.min(place + FRAME), SteppedOver(place));
         }
     }
     Ok(reasons)
 }
 
-/// The reason for one place, 27 before 34.
+/// The reason of one place.
 pub fn why(record: &[u8], limit: usize, place: usize) -> Result<Reason, u8> {
     let reasons = reasons(record, limit)?;
     reasons.get(place).copied().ok_or(PLACE_OUTSIDE)
 }
 
-fn in_lock(number: u8, misses: usize, limit: usize) -> (Reason, Lock) {
-    if [0, NULL_TRANSMISSION].contains(&number) {
-        return (Reason::HandedOut, Some(0));
+fn met_in_lock(frame: &[u8]) -> Reason {
+    match judge(frame) {
+        0 | NULL_TRANSMISSION => HandedOut,
+        number => Lost(number),
     }
-    let misses = misses + 1;
-    (Reason::Lost(number), (misses < limit).then_some(misses))
 }
 
-fn hunting(record: &[u8], place: usize) -> (Reason, Lock) {
-    let number = judge(&record[place..place + FRAME]);
-    let later = place + FRAME;
-    if number != 0 {
-        (Reason::Refused(number), None)
-    } else if !stands(record, later) {
-        (Reason::NotStanding, None)
-    } else if fsync1(&record[place..]) == fsync1(&record[later..]) {
-        (Reason::SameSync, None)
-    } else {
-        (Reason::HandedOut, Some(0))
+/// That the later place does not stand is named first, and also where its 6,144 bytes do not exist.
+fn hunted(frame: &[u8], later: Option<&[u8]>) -> Reason {
+    match (judge(frame), later) {
+        (0, Some(later)) if judge(later) == 0 => {
+            if fsync1(frame) == fsync1(later) {
+                SameSync
+            } else {
+                HandedOut
+            }
+        }
+        (0, _) => NotStanding,
+        (number, _) => Refused(number),
     }
+}
+
+fn period(record: &[u8], place: usize) -> Option<&[u8]> {
+    record.get(place..)?.get(..FRAME)
 }

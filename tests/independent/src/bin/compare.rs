@@ -7,13 +7,19 @@ use std::thread;
 use std::time::{Duration, Instant};
 
 const USAGE: &str =
-    "usage: compare [--seed N] [--frames N] [--records N] [--signals N] [--chains N] [--places N] [--profiles N] [--seconds N]";
+    "usage: compare [--seed N] [--frames N] [--records N] [--signals N] [--chains N] [--places N] [--profiles N] [--packets N] [--logs N] [--seconds N]";
 const THREADS: u64 = 2;
 /// A message, and the numbers that signalling tells or refuses with.
 const SIGNAL_NUMBERS: [usize; 7] = [0, 1, 12, 24, 25, 26, 36];
 
 /// Passing, some of reading's refusals, and the profile's own.
 const PROFILE_NUMBERS: [usize; 8] = [0, 1, 6, 9, 30, 31, 32, 33];
+
+/// Regenerated, and the numbers that packets are refused with.
+const PACKET_NUMBERS: [usize; 10] = [0, 1, 7, 8, 10, 12, 20, 21, 22, 35];
+
+/// Done, and the numbers that logs, entries and sheets are refused with.
+const LOG_NUMBERS: [usize; 7] = [0, 1, 12, 28, 29, 34, 37];
 
 struct Options {
     seed: u64,
@@ -24,6 +30,8 @@ struct Options {
     /// Records whose every place is asked about.
     places: u64,
     profiles: u64,
+    packets: u64,
+    logs: u64,
     /// Rounds go on until the time is up.
     seconds: Option<u64>,
 }
@@ -61,6 +69,8 @@ fn options(mut arguments: impl Iterator<Item = String>) -> Result<Options, Strin
         chains: 5_000,
         places: 200,
         profiles: 40_000,
+        packets: 20_000,
+        logs: 20_000,
         seconds: None,
     };
     while let Some(name) = arguments.next() {
@@ -74,6 +84,8 @@ fn options(mut arguments: impl Iterator<Item = String>) -> Result<Options, Strin
             "--chains" => options.chains = value,
             "--places" => options.places = value,
             "--profiles" => options.profiles = value,
+            "--packets" => options.packets = value,
+            "--logs" => options.logs = value,
             "--seconds" => options.seconds = Some(value),
             _ => return Err(format!("{name} is not known")),
         }
@@ -128,6 +140,8 @@ fn part(seed: u64, options: &Options, thread: u64) -> Result<Tally, Found> {
         (Sort::Chain, options.chains),
         (Sort::Places, options.places),
         (Sort::Profile, options.profiles),
+        (Sort::Packet, options.packets),
+        (Sort::Log, options.logs),
     ];
     for (sort, count) in sorts {
         for case in (thread..count).step_by(THREADS as usize) {
@@ -156,17 +170,23 @@ fn report(tally: &Tally) -> ExitCode {
         println!("number {number}: {count} cases");
     }
     println!("signalling {}", tally.signals);
-    for number in SIGNAL_NUMBERS {
-        let count = tally.signal_numbers[number];
-        println!("signalling, number {number}: {count} times");
-        never |= count == 0;
-    }
+    never |= never_met("signalling", &SIGNAL_NUMBERS, &tally.signal_numbers);
     println!("profiles {}", tally.profiles);
-    for number in PROFILE_NUMBERS {
-        let count = tally.profile_numbers[number];
-        println!("profiles, number {number}: {count} times");
-        never |= count == 0;
-    }
+    never |= never_met("profiles", &PROFILE_NUMBERS, &tally.profile_numbers);
+    let (packets, cut) = (tally.packets, tally.packets_cut);
+    println!("packets {packets}, cut at every byte {cut}");
+    never |= never_met("packets", &PACKET_NUMBERS, &tally.packet_numbers) || cut == 0;
+    let sorts = [
+        tally.logs_in_parts,
+        tally.logs_bad_everywhere,
+        tally.logs_of_walks,
+    ];
+    let [parts, bad, walks] = sorts;
+    println!(
+        "logs {}, added in parts {parts}, bad at every byte {bad}, of walks {walks}",
+        tally.logs
+    );
+    never |= never_met("logs", &LOG_NUMBERS, &tally.log_numbers) || sorts.contains(&0);
     let chains = [
         ("chains", tally.chains),
         ("relays in chains", tally.relays),
@@ -193,6 +213,14 @@ fn report(tally: &Tally) -> ExitCode {
     }
     println!("no mismatch");
     ExitCode::SUCCESS
+}
+
+/// Prints how often each number was met; whether one never was.
+fn never_met(what: &str, numbers: &[usize], counts: &[u64]) -> bool {
+    for &number in numbers {
+        println!("{what}, number {number}: {} times", counts[number]);
+    }
+    numbers.iter().any(|&number| counts[number] == 0)
 }
 
 fn print_found(found: &Found) {

@@ -39,7 +39,11 @@ impl Case<'_> {
         let mut told = Vec::new();
         for (number, &frame) in frames.iter().enumerate() {
             self.refused_call(frame, &lent)?;
+            let before = lent.buffer.clone();
             self.signal_call(frame, &mut lent, 0)?;
+            // A frame that makes no group whole writes nothing, and no message is longer than the longest.
+            let kept = if frame.fp % 4 == 3 { MOST_BYTES } else { 0 };
+            self.same("buffer kept", &lent.buffer[kept..], &before[kept..])?;
             let item = abi::signal_item(&lent.signal, &lent.buffer);
             told.extend(item.map(|item| (number, item)));
         }

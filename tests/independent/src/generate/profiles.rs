@@ -2,7 +2,7 @@
 
 use super::frames::{frame_case, Draft};
 use super::Random;
-use crate::frame::{Stream, MOST_FL, MOST_STREAMS};
+use crate::frame::{Stream, MOST_FL, MOST_STL, MOST_STREAMS};
 use crate::profile::{size, UNITS};
 
 /// What is done to a table that passes.
@@ -55,6 +55,17 @@ pub fn frame_of(table: Vec<Stream>, random: &mut Random) -> Vec<u8> {
         draft.set_fl();
     }
     draft.frame(random)
+}
+
+/// A stream of each TPL and STL in turn.
+pub fn alone(n: u64) -> Stream {
+    let (tpl, stl) = (n % 64, n / 64 % (u64::from(MOST_STL) + 1));
+    Stream {
+        scid: 0,
+        sad: 0,
+        tpl: tpl as u8,
+        stl: stl as u16,
+    }
 }
 
 /// Streams with a size, one behind another with gaps or none, in any order.
