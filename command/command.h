@@ -7,11 +7,12 @@
 /* Exit statuses. */
 enum { DONE = 0, COULD_NOT = 1, WRONG_USE = 2 };
 
-/* What a verb is asked: a file, a place where the verb takes one, and the limit of misses. */
+/* What a verb is asked: a file, a place where the verb takes one, the limit of misses of a walk, and which sync word, 0 or 1, a frame gets. */
 struct request {
     const char *file;
     size_t place;
     size_t limit;
+    size_t sync;
 };
 
 /* A verb: its name, whether it takes a place, what it does, and the line of help. */
@@ -22,6 +23,7 @@ struct verb {
     const char *help;
 };
 
+void edi_frame(const struct request *asked);
 void list(const struct request *asked);
 void profile(const struct request *asked);
 void why(const struct request *asked);

@@ -6,6 +6,7 @@
 #include <string.h>
 
 static const struct verb verbs[] = {
+    {"edi-frame", 0, edi_frame, "edi-frame [--sync N] FILE     the frame that an EDI packet's tag items call for, its 6,144 bytes on standard output"},
     {"list", 0, list, "list [--limit M] FILE         a line for each frame, lost mark and idle period, and the end"},
     {"profile", 0, profile, "profile [--limit M] FILE      of each frame handed out, whether it passes the final-stage profile, and what is in the way"},
     {"why", 1, why, "why [--limit M] FILE PLACE    the reason for which the period at a place was aired or not"},
@@ -17,6 +18,7 @@ static void help(FILE *to) {
     fprintf(to, "usage: spindlewren VERB ..\n");
     for (i = 0; i < VERBS; i++) fprintf(to, "  spindlewren %s\n", verbs[i].help);
     fprintf(to, "  spindlewren --help\n"
+                "N: the sync word, 0 for 07 3A B6 or 1 for F8 C5 49, 0 unless given.\n"
                 "M: so many lost marks in a row end the lock, 1 to 8, 3 unless given. PLACE: a byte's number in the file, from 0 on.\n"
                 "Exit status: 0 done, 1 could not, 2 wrong use.\n");
 }
@@ -27,12 +29,18 @@ static int wrong_use(const char *what, const char *word) {
     return WRONG_USE;
 }
 
-/* The words behind a verb: --limit M anywhere, a file, and a place where the verb takes one. */
+/* The option that a verb takes: a walk its limit, a frame that is made its sync word. */
+static const char *option(const struct verb *verb) {
+    return verb->run == edi_frame ? "--sync" : "--limit";
+}
+
+/* The words behind a verb: its option anywhere, a file, and a place where the verb takes one. */
 static int understood(const struct verb *verb, int argc, char **argv, struct request *asked) {
     int i, words = 0;
     for (i = 0; i < argc; i++) {
-        if (strcmp(argv[i], "--limit") == 0) {
-            if (++i == argc || !digits(argv[i], &asked->limit)) return wrong_use("--limit needs a number", "");
+        if (strcmp(argv[i], option(verb)) == 0) {
+            if (++i == argc || !digits(argv[i], verb->run == edi_frame ? &asked->sync : &asked->limit)) return wrong_use(option(verb), " needs a number");
+            if (asked->sync > 1) return wrong_use("--sync is 0 or 1: ", argv[i]);
         } else if (strncmp(argv[i], "--", 2) == 0) {
             return wrong_use("not known: ", argv[i]);
         } else if (words == 0) {
@@ -50,7 +58,7 @@ static int understood(const struct verb *verb, int argc, char **argv, struct req
 }
 
 int main(int argc, char **argv) {
-    struct request asked = {NULL, 0, 3};
+    struct request asked = {NULL, 0, 3, 0};
     size_t i;
     int status, at;
     if (argc < 2) return wrong_use("no verb", "");

@@ -113,14 +113,18 @@ enum {
     SPINDLEWREN_STL_ABOVE = 8,      /* some STL above 684 */
     SPINDLEWREN_FL_DIFFERS = 9,     /* FL differs from the formula */
     SPINDLEWREN_FL_ABOVE = 10,      /* FL above 1,532 */
-    SPINDLEWREN_TOO_WIDE = 12,      /* a value wider than its field: a lock byte above 1 */
+    SPINDLEWREN_TOO_WIDE = 12,      /* a value wider than its field: a lock byte above 1, an STL of 1,024 or more */
     SPINDLEWREN_NO_SUCH_STREAM = 13, /* stream index not below NST */
+    SPINDLEWREN_BAD_ITEM = 20,      /* a tag item runs past the packet, is no whole number of bytes, or is a stream of no whole number of words */
+    SPINDLEWREN_MANAGEMENT = 21,    /* management item missing, repeated, or of another length than it calls for */
+    SPINDLEWREN_STREAM_NUMBERS = 22, /* stream numbers not 1 to NST, each once */
     SPINDLEWREN_LIMIT_OUTSIDE = 27, /* limit outside 1 to 8 */
     SPINDLEWREN_EQUAL_SCIDS = 30,   /* two streams have one SCID */
     SPINDLEWREN_NO_SIZE = 31,       /* protection with no size */
     SPINDLEWREN_BEYOND = 32,        /* capacity units beyond 863 */
     SPINDLEWREN_OVERLAP = 33,       /* two sub-channels share a capacity unit */
-    SPINDLEWREN_PLACE_OUTSIDE = 34  /* place outside 0 to the record's length less 6,144 */
+    SPINDLEWREN_PLACE_OUTSIDE = 34, /* place outside 0 to the record's length less 6,144 */
+    SPINDLEWREN_ITEM_STATUS = 35    /* the management item's status byte is none of the four */
 };
 
 /* Each returns the refusal number, 0 for accepted; refused, not one byte is written. A pointer may be null where its length is 0. */
@@ -155,6 +159,11 @@ uint8_t spindlewren_profile(const uint8_t *frame, size_t frame_len);
    profile's number stands in the answer. In the same archive. */
 uint8_t spindlewren_collision(const uint8_t *frame, size_t frame_len, uint8_t *collision, size_t collision_len);
 
+/* The frame that an EDI packet's tag items call for, into `out`, of SPINDLEWREN_FRAME bytes, with the sync word 07 3A B6 for choice 0 and F8 C5 49
+   for every other: 20, 21, 22 or 35 for the items, then writing's numbers: 1 for an output of another length, 12 for an STL of 1,024 or more, 7, 8, 10.
+   In an archive of its own: tools/archive packets. */
+uint8_t spindlewren_edi(const uint8_t *packet, size_t packet_len, uint8_t choice, uint8_t *out, size_t out_len);
+
 /* The number in `width` bytes from `at` on, high byte first. */
 static inline uint64_t spindlewren_number(const uint8_t *bytes, size_t at, size_t width) {
     uint64_t n = 0;
@@ -184,12 +193,16 @@ static inline const char *spindlewren_label(uint8_t number) {
     case SPINDLEWREN_FL_ABOVE: return "FL above 1,532";
     case SPINDLEWREN_TOO_WIDE: return "a value wider than its field";
     case SPINDLEWREN_NO_SUCH_STREAM: return "stream index not below NST";
+    case SPINDLEWREN_BAD_ITEM: return "a tag item of a wrong length";
+    case SPINDLEWREN_MANAGEMENT: return "management item missing, repeated or of a wrong length";
+    case SPINDLEWREN_STREAM_NUMBERS: return "stream numbers not 1 to NST, each once";
     case SPINDLEWREN_LIMIT_OUTSIDE: return "limit outside 1 to 8";
     case SPINDLEWREN_EQUAL_SCIDS: return "two streams have one SCID";
     case SPINDLEWREN_NO_SIZE: return "protection with no size";
     case SPINDLEWREN_BEYOND: return "capacity units beyond 863";
     case SPINDLEWREN_OVERLAP: return "two sub-channels share a capacity unit";
     case SPINDLEWREN_PLACE_OUTSIDE: return "place outside 0 to the record's length less 6,144";
+    case SPINDLEWREN_ITEM_STATUS: return "status byte of the management item is none of the four";
     default: return "no such number";
     }
 }
