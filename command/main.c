@@ -6,12 +6,15 @@
 #include <string.h>
 
 static const struct verb verbs[] = {
-    {"list", TAKES_LIMIT, list, "list [--limit M] FILE         a line for each frame, lost mark and idle period, and the end"},
-    {"profile", TAKES_LIMIT, profile, "profile [--limit M] FILE      of each frame handed out, whether it passes the final-stage profile, and what is in the way"},
-    {"signalling", TAKES_LIMIT, signalling, "signalling [--limit M] FILE   each message that the frames' MNSC bytes carry, and each group or message dropped"},
-    {"why", TAKES_LIMIT | TAKES_PLACE, why, "why [--limit M] FILE PLACE    the reason for which the period at a place was aired or not"},
-    {"log", TAKES_LIMIT, keep_log, "log [--limit M] FILE > LOG    the fault log of a record: sixteen bytes for each frame, lost mark and idle period"},
-    {"sheet", TAKES_MANY | TAKES_HTML, sheet, "sheet [--html] LOG ..         what one log or several joined add up to, as a table, or as a page to look at"},
+    {"edi-frame", TAKES_SYNC, edi_frame, "edi-frame [--sync N] FILE            the frame that an EDI packet's tag items call for, its 6,144 bytes on standard output"},
+    {"extract", TAKES_LIMIT | TAKES_PART | TAKES_FILL, extract, "extract [--limit M] [--fill] FILE N  the bytes of stream N, from 0 on, or of the FIC (fic), of every frame handed out"},
+    {"list", TAKES_LIMIT, list, "list [--limit M] FILE                a line for each frame, lost mark and idle period, and the end"},
+    {"log", TAKES_LIMIT, keep_log, "log [--limit M] FILE > LOG           the fault log of a record: sixteen bytes for each frame, lost mark and idle period"},
+    {"profile", TAKES_LIMIT, profile, "profile [--limit M] FILE             of each frame handed out, whether it passes the final-stage profile, and what is in the way"},
+    {"sheet", TAKES_MANY | TAKES_HTML, sheet, "sheet [--html] LOG ..                what one log or several joined add up to, as a table, or as a page to look at"},
+    {"show", TAKES_LIMIT | MAY_TAKE_PLACE, show, "show [--limit M] FILE [PLACE]        every field and sub-channel of the first frame handed out, or of the frame at a place"},
+    {"signalling", TAKES_LIMIT, signalling, "signalling [--limit M] FILE          each message that the frames' MNSC bytes carry, and each group or message dropped"},
+    {"why", TAKES_LIMIT | TAKES_PLACE, why, "why [--limit M] FILE PLACE           the reason for which the period at a place was aired or not"},
 };
 enum { VERBS = sizeof verbs / sizeof verbs[0] };
 
@@ -30,34 +33,55 @@ static int wrong_use(const char *what, const char *word) {
     return WRONG_USE;
 }
 
-/* The words behind a verb: its options anywhere, a file or several, and a place where the verb takes one. */
+/* A word that is neither an option nor the first file. */
+static int further(const struct verb *verb, char *word, struct request *asked) {
+    size_t stream;
+    if (verb->takes & TAKES_MANY) {
+        /* the names are moved together, over words that are done with */
+        asked->files[asked->count++] = word;
+    } else if (verb->takes & (TAKES_PLACE | MAY_TAKE_PLACE) && !asked->placed) {
+        if (!digits(word, &asked->place)) return wrong_use("a place is a number: ", word);
+        asked->placed = 1;
+    } else if (verb->takes & TAKES_PART && asked->part == NULL) {
+        if (strcmp(word, "fic") != 0 && !digits(word, &stream)) return wrong_use("neither a stream's number nor fic: ", word);
+        asked->part = word;
+    } else {
+        return wrong_use("one word too many: ", word);
+    }
+    return DONE;
+}
+
+/* The words behind a verb: its options anywhere, a file or several, and a place or a part where the verb takes one. */
 static int understood(const struct verb *verb, int argc, char **argv, struct request *asked) {
-    int i, place = 0;
+    int i, status;
     asked->files = argv;
     for (i = 0; i < argc; i++) {
         if (strcmp(argv[i], "--limit") == 0 && verb->takes & TAKES_LIMIT) {
             if (++i == argc || !digits(argv[i], &asked->limit)) return wrong_use("--limit needs a number", "");
+        } else if (strcmp(argv[i], "--sync") == 0 && verb->takes & TAKES_SYNC) {
+            if (++i == argc || !digits(argv[i], &asked->sync)) return wrong_use("--sync needs a number", "");
+            if (asked->sync > 1) return wrong_use("--sync is 0 or 1: ", argv[i]);
         } else if (strcmp(argv[i], "--html") == 0 && verb->takes & TAKES_HTML) {
             asked->html = 1;
+        } else if (strcmp(argv[i], "--fill") == 0 && verb->takes & TAKES_FILL) {
+            asked->fill = 1;
         } else if (strncmp(argv[i], "--", 2) == 0) {
             return wrong_use("not known: ", argv[i]);
-        } else if (asked->count == 0 || verb->takes & TAKES_MANY) {
-            /* the names are moved together, over words that are done with */
+        } else if (asked->count == 0) {
             asked->files[asked->count++] = argv[i];
-        } else if (verb->takes & TAKES_PLACE && !place) {
-            if (!digits(argv[i], &asked->place)) return wrong_use("a place is a number: ", argv[i]);
-            place = 1;
-        } else {
-            return wrong_use("one word too many: ", argv[i]);
+        } else if ((status = further(verb, argv[i], asked)) != DONE) {
+            return status;
         }
     }
-    if (asked->count == 0 || (verb->takes & TAKES_PLACE && !place)) return wrong_use(verb->takes & TAKES_PLACE ? "needs a file and a place: " : "needs a file: ", verb->name);
+    if (asked->count == 0) return wrong_use("needs a file: ", verb->name);
+    if (verb->takes & TAKES_PLACE && !asked->placed) return wrong_use("needs a file and a place: ", verb->name);
+    if (verb->takes & TAKES_PART && asked->part == NULL) return wrong_use("needs a file and a stream's number, or fic: ", verb->name);
     asked->file = asked->files[0];
     return DONE;
 }
 
 int main(int argc, char **argv) {
-    struct request asked = {NULL, NULL, 0, 0, 3, 0};
+    struct request asked = {NULL, NULL, 0, 0, 0, NULL, 3, 0, 0, 0};
     size_t i;
     int status, at;
     if (argc < 2) return wrong_use("no verb", "");

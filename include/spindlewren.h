@@ -161,8 +161,11 @@ enum {
     SPINDLEWREN_STL_ABOVE = 8,      /* some STL above 684 */
     SPINDLEWREN_FL_DIFFERS = 9,     /* FL differs from the formula */
     SPINDLEWREN_FL_ABOVE = 10,      /* FL above 1,532 */
-    SPINDLEWREN_TOO_WIDE = 12,      /* a value wider than its field: a lock byte above 1; a sheet that cannot go on */
+    SPINDLEWREN_TOO_WIDE = 12,      /* a value wider than its field: a lock byte above 1, an STL of 1,024 or more; a sheet that cannot go on */
     SPINDLEWREN_NO_SUCH_STREAM = 13, /* stream index not below NST */
+    SPINDLEWREN_BAD_ITEM = 20,      /* a tag item runs past the packet, is no whole number of bytes, or is a stream of no whole number of words */
+    SPINDLEWREN_MANAGEMENT_ITEM = 21, /* management item missing, repeated, or of another length than it calls for */
+    SPINDLEWREN_STREAM_NUMBERS = 22, /* stream numbers not 1 to NST, each once */
     SPINDLEWREN_OUT_OF_PHASE = 24,  /* signalling: a frame out of phase, the group is dropped */
     SPINDLEWREN_OUT_OF_TURN = 25,   /* signalling: a continuation or end that is not due, or a start in an open message */
     SPINDLEWREN_CLOSING_SUM = 26,   /* signalling: the closing sum is wrong */
@@ -174,6 +177,7 @@ enum {
     SPINDLEWREN_BEYOND = 32,        /* capacity units beyond 863 */
     SPINDLEWREN_OVERLAP = 33,       /* two sub-channels share a capacity unit */
     SPINDLEWREN_PLACE_OUTSIDE = 34, /* place outside 0 to the record's length less 6,144; of a log, no such record */
+    SPINDLEWREN_ITEM_STATUS = 35,   /* the management item's status byte is none of the four */
     SPINDLEWREN_MESSAGE_LENGTH = 36, /* a message whose length groups cannot carry exactly */
     SPINDLEWREN_NOT_SIXTEEN = 37    /* not exactly sixteen bytes lent */
 };
@@ -235,6 +239,11 @@ uint8_t spindlewren_log_entry(const uint8_t *log, size_t log_len, size_t i, uint
    is above 1; met is 0 and the last FCT is not 0; or met is 1 and it is above 249. In an archive of its own: tools/archive sheets. */
 uint8_t spindlewren_sheet(const uint8_t *log, size_t log_len, uint8_t *sheet, size_t sheet_len);
 
+/* The frame that an EDI packet's tag items call for, into `out`, of SPINDLEWREN_FRAME bytes, with the sync word 07 3A B6 for choice 0 and F8 C5 49
+   for every other: 20, 21, 22 or 35 for the items, then writing's numbers: 1 for an output of another length, 12 for an STL of 1,024 or more, 7, 8, 10.
+   In an archive of its own: tools/archive packets. */
+uint8_t spindlewren_edi(const uint8_t *packet, size_t packet_len, uint8_t choice, uint8_t *out, size_t out_len);
+
 /* The number in `width` bytes from `at` on, high byte first. */
 static inline uint64_t spindlewren_number(const uint8_t *bytes, size_t at, size_t width) {
     uint64_t n = 0;
@@ -264,6 +273,9 @@ static inline const char *spindlewren_label(uint8_t number) {
     case SPINDLEWREN_FL_ABOVE: return "FL above 1,532";
     case SPINDLEWREN_TOO_WIDE: return "a value wider than its field";
     case SPINDLEWREN_NO_SUCH_STREAM: return "stream index not below NST";
+    case SPINDLEWREN_BAD_ITEM: return "a tag item of a wrong length";
+    case SPINDLEWREN_MANAGEMENT_ITEM: return "management item missing, repeated or of a wrong length";
+    case SPINDLEWREN_STREAM_NUMBERS: return "stream numbers not 1 to NST, each once";
     case SPINDLEWREN_OUT_OF_PHASE: return "a frame is out of phase";
     case SPINDLEWREN_OUT_OF_TURN: return "a group is out of turn";
     case SPINDLEWREN_CLOSING_SUM: return "closing sum wrong";
@@ -275,6 +287,7 @@ static inline const char *spindlewren_label(uint8_t number) {
     case SPINDLEWREN_BEYOND: return "capacity units beyond 863";
     case SPINDLEWREN_OVERLAP: return "two sub-channels share a capacity unit";
     case SPINDLEWREN_PLACE_OUTSIDE: return "place outside 0 to the record's length less 6,144";
+    case SPINDLEWREN_ITEM_STATUS: return "status byte of the management item is none of the four";
     case SPINDLEWREN_MESSAGE_LENGTH: return "a message of a length that groups cannot carry";
     case SPINDLEWREN_NOT_SIXTEEN: return "not exactly sixteen bytes lent";
     default: return "no such number";
