@@ -1,6 +1,7 @@
 # make run: lists a record, samples/four.eti or RECORD=file. make example: the same from C. make test: the gate.
-# make command: the command spindlewren, for engineers. make rows: the bench figures. make soak: the comparison with the Rust implementation for SECONDS, from SEED on. make bench: times.
-.PHONY: run rows example command soak bench test
+# make command: the command spindlewren, for engineers. make install PREFIX=..: command, headers, static library, pkg-config file and manual page; make uninstall.
+# make rows: the bench figures. make soak: the comparison with the Rust implementation for SECONDS, from SEED on. make bench: times.
+.PHONY: run rows example command install uninstall soak bench test
 RECORD = samples/four.eti
 SECONDS = 600
 SEED = $(shell date +%s)
@@ -24,6 +25,22 @@ command: target/command/spindlewren
 target/command/spindlewren: $(wildcard command/*) include/spindlewren.h tools/library $(shell find crates crates.txt -type f)
 	@mkdir -p target/command
 	@$(CC) -std=c99 -O2 -Wall -Wextra -Wpedantic -Werror -Iinclude command/*.c "$$(tools/library)" -o $@
+
+PREFIX = /usr/local
+VERSION = 1.0
+HEADERS = spindlewren.h spindlewren_boot.h spindlewren_lines.h
+under = $(DESTDIR)$(PREFIX)
+
+install: target/command/spindlewren
+	@mkdir -p $(under)/bin $(under)/include $(under)/lib/pkgconfig $(under)/share/man/man1
+	@install -m 755 target/command/spindlewren $(under)/bin/
+	@install -m 644 $(HEADERS:%=include/%) $(under)/include/
+	@install -m 644 "$$(tools/library)" $(under)/lib/
+	@sed 's|@PREFIX@|$(PREFIX)|; s|@VERSION@|$(VERSION)|' tools/spindlewren.pc >$(under)/lib/pkgconfig/spindlewren.pc
+	@install -m 644 command/spindlewren.1 $(under)/share/man/man1/
+
+uninstall:
+	@rm -f $(under)/bin/spindlewren $(HEADERS:%=$(under)/include/%) $(under)/lib/libspindlewren.a $(under)/lib/pkgconfig/spindlewren.pc $(under)/share/man/man1/spindlewren.1
 
 soak:
 	@tests/independent/run --seed $(SEED) --seconds $(SECONDS)

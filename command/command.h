@@ -24,6 +24,7 @@ struct verb {
 
 void list(const struct request *asked);
 void profile(const struct request *asked);
+void signalling(const struct request *asked);
 void why(const struct request *asked);
 
 struct record {

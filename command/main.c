@@ -8,6 +8,7 @@
 static const struct verb verbs[] = {
     {"list", 0, list, "list [--limit M] FILE         a line for each frame, lost mark and idle period, and the end"},
     {"profile", 0, profile, "profile [--limit M] FILE      of each frame handed out, whether it passes the final-stage profile, and what is in the way"},
+    {"signalling", 0, signalling, "signalling [--limit M] FILE   each message that the frames' MNSC bytes carry, and each group or message dropped"},
     {"why", 1, why, "why [--limit M] FILE PLACE    the reason for which the period at a place was aired or not"},
 };
 enum { VERBS = sizeof verbs / sizeof verbs[0] };

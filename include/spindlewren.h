@@ -18,7 +18,9 @@ enum {
     SPINDLEWREN_WALK = 21,    /* spindlewren_begin, spindlewren_step */
     SPINDLEWREN_LOOKS = 8,    /* spindlewren_looks */
     SPINDLEWREN_WHY = 10,     /* spindlewren_why */
-    SPINDLEWREN_COLLISION = 3 /* spindlewren_collision */
+    SPINDLEWREN_COLLISION = 3, /* spindlewren_collision */
+    SPINDLEWREN_SIGNAL = 24,  /* spindlewren_signal_step */
+    SPINDLEWREN_MESSAGE = 1538 /* the buffer in which a message gathers, at least */
 };
 
 /* What the answer of spindlewren_read has at which byte; one byte each where no number stands behind. */
@@ -75,6 +77,20 @@ enum {
     SPINDLEWREN_SECOND = 2
 };
 
+/* What signalling has behind its state: the step's item. The state is begun as bytes all zero. */
+enum {
+    SPINDLEWREN_SIGNAL_KIND = 14,
+    SPINDLEWREN_SIGNAL_NUMBER = 15, /* a message's type, a drop's refusal number */
+    SPINDLEWREN_SIGNAL_LENGTH = 16  /* 8: a message's */
+};
+
+/* The kinds of item that signalling has. */
+enum {
+    SPINDLEWREN_IS_NOTHING = 0,
+    SPINDLEWREN_IS_MESSAGE = 1, /* the first bytes of the buffer */
+    SPINDLEWREN_IS_DROP = 2     /* of a group or of a message */
+};
+
 /* The kinds of item. */
 enum {
     SPINDLEWREN_IS_FRAME = 0,
@@ -115,12 +131,16 @@ enum {
     SPINDLEWREN_FL_ABOVE = 10,      /* FL above 1,532 */
     SPINDLEWREN_TOO_WIDE = 12,      /* a value wider than its field: a lock byte above 1 */
     SPINDLEWREN_NO_SUCH_STREAM = 13, /* stream index not below NST */
+    SPINDLEWREN_OUT_OF_PHASE = 24,  /* signalling: a frame out of phase, the group is dropped */
+    SPINDLEWREN_OUT_OF_TURN = 25,   /* signalling: a continuation or end that is not due, or a start in an open message */
+    SPINDLEWREN_CLOSING_SUM = 26,   /* signalling: the closing sum is wrong */
     SPINDLEWREN_LIMIT_OUTSIDE = 27, /* limit outside 1 to 8 */
     SPINDLEWREN_EQUAL_SCIDS = 30,   /* two streams have one SCID */
     SPINDLEWREN_NO_SIZE = 31,       /* protection with no size */
     SPINDLEWREN_BEYOND = 32,        /* capacity units beyond 863 */
     SPINDLEWREN_OVERLAP = 33,       /* two sub-channels share a capacity unit */
-    SPINDLEWREN_PLACE_OUTSIDE = 34  /* place outside 0 to the record's length less 6,144 */
+    SPINDLEWREN_PLACE_OUTSIDE = 34, /* place outside 0 to the record's length less 6,144 */
+    SPINDLEWREN_MESSAGE_LENGTH = 36 /* a message whose length groups cannot carry exactly */
 };
 
 /* Each returns the refusal number, 0 for accepted; refused, not one byte is written. A pointer may be null where its length is 0. */
@@ -155,6 +175,15 @@ uint8_t spindlewren_profile(const uint8_t *frame, size_t frame_len);
    profile's number stands in the answer. In the same archive. */
 uint8_t spindlewren_collision(const uint8_t *frame, size_t frame_len, uint8_t *collision, size_t collision_len);
 
+/* Signalling, fed one frame's FP and MNSC: the signal's bytes then hold the state after it and its item. A message gathers in `bytes`, at least
+   SPINDLEWREN_MESSAGE of them, the same and unchanged while one is open. 1 for a length, then 12 for state bytes of no state.
+   In an archive of its own: tools/archive signals. */
+uint8_t spindlewren_signal_step(uint8_t fp, uint16_t mnsc, uint8_t *signal, size_t signal_len, uint8_t *bytes, size_t bytes_len);
+
+/* The byte pairs of a message, two bytes for each frame, the first for a frame whose FP is a multiple of 4: 36 for a message that has not
+   8 + 6 n bytes, n from 0 to 255, then 1 for an output that has not 16 + 8 n. In the same archive. */
+uint8_t spindlewren_signal_write(uint8_t type, const uint8_t *message, size_t message_len, uint8_t *out, size_t out_len);
+
 /* The number in `width` bytes from `at` on, high byte first. */
 static inline uint64_t spindlewren_number(const uint8_t *bytes, size_t at, size_t width) {
     uint64_t n = 0;
@@ -184,12 +213,16 @@ static inline const char *spindlewren_label(uint8_t number) {
     case SPINDLEWREN_FL_ABOVE: return "FL above 1,532";
     case SPINDLEWREN_TOO_WIDE: return "a value wider than its field";
     case SPINDLEWREN_NO_SUCH_STREAM: return "stream index not below NST";
+    case SPINDLEWREN_OUT_OF_PHASE: return "a frame is out of phase";
+    case SPINDLEWREN_OUT_OF_TURN: return "a group is out of turn";
+    case SPINDLEWREN_CLOSING_SUM: return "closing sum wrong";
     case SPINDLEWREN_LIMIT_OUTSIDE: return "limit outside 1 to 8";
     case SPINDLEWREN_EQUAL_SCIDS: return "two streams have one SCID";
     case SPINDLEWREN_NO_SIZE: return "protection with no size";
     case SPINDLEWREN_BEYOND: return "capacity units beyond 863";
     case SPINDLEWREN_OVERLAP: return "two sub-channels share a capacity unit";
     case SPINDLEWREN_PLACE_OUTSIDE: return "place outside 0 to the record's length less 6,144";
+    case SPINDLEWREN_MESSAGE_LENGTH: return "a message of a length that groups cannot carry";
     default: return "no such number";
     }
 }

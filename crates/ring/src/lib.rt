@@ -132,7 +132,8 @@ fn least(a: usize, b: usize) -> usize
     if a < b { a } else { b }
 }
 
-// The sum of the bytes from a up to e, as many of them as there are.
+// The sum of the bytes from a up to e, as many of them as there are. `many` is called here too, so that it stays apart from `sum`, whose
+// short way then needs no frame.
 pub fn sum_between(bytes: &[u8], a: usize, e: usize) -> u16
     ensures { λ r. ⌜ r ≡ sumOf (take (e - a) (drop a (now (bytes .entry)))) ⌝ }
 {
@@ -141,7 +142,7 @@ pub fn sum_between(bytes: &[u8], a: usize, e: usize) -> u16
         return 0;
     }
     if end - a < 48 {
-        return !stretch::few(0xffff, &bytes[a..end]);
+        return sum(&bytes[a..end]);
     }
     many(&bytes[a..end])
 }

@@ -135,16 +135,9 @@ pub four-on : (r : Register) (xs : List ℕ) (w v z : ℕ) → split bytes4 z �
 unfolding after4
 four-on r xs w v z f e g = g ∙ ap word (ap₂ after (ap load e ∙ load-word r) f)
 
--- one byte more, and two
+-- one byte more
 pub byte-on : (r : Register) (xs : List ℕ) (i : ℕ) → i < length xs → after r (take (i + 1) xs) ≡ feed (after r (take i xs)) (getD xs i 0)
 byte-on r xs i h = rw (add-one i, take-suc xs i 0 h) (after-append r (take i xs) (getD xs i 0 ∷ []))
-
-pub two-on : (r : Register) (xs : List ℕ) (i w v : ℕ) → i + 1 < length xs → w ≡ word (after r (take i xs)) → v ≡ word (feed (feed (load w) (getD xs i 0)) (getD xs (i + 1) 0)) → v ≡ word (after r (take (i + 2) xs))
-two-on r xs i w v h e g =
-    let two : i + 2 ≡ i + 1 + 1 = omega arith in
-    g ∙ ap (λ (q : Register). word (feed (feed q (getD xs i 0)) (getD xs (i + 1) 0))) (ap load e ∙ load-word (after r (take i xs)))
-    ∙ ap (λ (q : Register). word (feed q (getD xs (i + 1) 0))) (sym (byte-on r xs i (omega arith))) ∙ ap word (sym (byte-on r xs (i + 1) h))
-    ∙ ap (λ (n : ℕ). word (after r (take n xs))) (sym two)
 
 -- the first n bytes, and all the others
 pub whole : (r : Register) (xs : List ℕ) (n : ℕ) → n ≤ length xs → after (after r (take n xs)) (take (length xs - n) (drop n xs)) ≡ after r xs

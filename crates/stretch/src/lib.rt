@@ -4,7 +4,7 @@ ghost use mathlib.Core.List.{[], _∷_};
 ghost use Prim.Native.Nat.{_+_, _%_, _^_, _≤_, _<_};
 ghost use lib.ListN.{length, take, drop};
 ghost use Rattle.octets.specs.Words.{split, bytes4};
-ghost use Rattle.sum.specs.Sum.{Register, feed, after, word, load};
+ghost use Rattle.sum.specs.Sum.{Register, after, word, load};
 ghost use Rattle.stretch.specs.Stretch.{after4, after8, Stands};
 
 fn four(b0: u8, b1: u8, b2: u8, b3: u8) -> u64
@@ -50,16 +50,6 @@ fn divide4(crc: u16, z: u64) -> u16
     let u = t ^ (t >> 8) ^ (t >> 22);
     let q = u ^ (u >> 16);
     ((q ^ (q << 5) ^ (q << 12)) % 65536) as u16
-}
-
-// The same after two bytes more.
-fn divide2(crc: u16, b0: u8, b1: u8) -> u16
-    ensures { λ r. ⌜ r ≡ word (feed (feed (load crc) b0) b1) ⌝ }
-{
-    let p = crc ^ (((b0 as u16) << 8) ^ (b1 as u16));
-    let t = p ^ (p >> 4) ^ (p >> 11);
-    let q = t ^ (t >> 8);
-    q ^ (q << 5) ^ (q << 12)
 }
 
 // The register after the first n bytes, a word to a turn.
@@ -133,60 +123,46 @@ fn turns(start: u16, bytes: &[u8], n: usize) -> u16
     close(s, bytes, n)
 }
 
-// Half a word, or nothing.
-fn half(crc: u16, bytes: &[u8], m: usize) -> u16
-    requires { ⌜ (m ≤ length (now bytes)) × (m % 4 ≡ 0) × (m < 8) ⌝ }
-    ensures { λ r. ⌜ ((s : Register) → crc ≡ word s → r ≡ word (after s (take m (now (bytes .entry))))) ⌝ }
-{
-    if 0 < m {
-        return divide4(crc, four_at(bytes, 0));
-    }
-    crc
-}
-
-// Two bytes more, or nothing.
-fn pair(crc: u16, bytes: &[u8], n: usize, m: usize) -> u16
-    requires { ⌜ (n ≤ m) × (m ≤ length (now bytes)) × (n % 2 ≡ 0) × (m % 2 ≡ 0) × (m < n + 4) ⌝ }
+// Half a word from n on, or nothing.
+fn half(crc: u16, bytes: &[u8], n: usize, m: usize) -> u16
+    requires { ⌜ (n ≤ m) × (m ≤ length (now bytes)) × (n % 4 ≡ 0) × (m % 4 ≡ 0) × (m < n + 8) ⌝ }
     ensures { λ r. ⌜ ((s : Register) → crc ≡ word (after s (take n (now (bytes .entry)))) → r ≡ word (after s (take m (now (bytes .entry))))) ⌝ }
 {
     if n < m {
-        return divide2(crc, bytes[n], bytes[n + 1]);
+        return divide4(crc, four_at(bytes, n));
     }
     crc
 }
 
-// The last byte, or nothing.
-fn last(crc: u16, bytes: &[u8], n: usize) -> u16
-    requires { ⌜ (n ≤ length (now bytes)) × (length (now bytes) < n + 2) ⌝ }
+// The bytes from n on, one by one.
+fn ones(start: u16, bytes: &[u8], n: usize) -> u16
+    requires { ⌜ n ≤ length (now bytes) ⌝ }
+    ensures { λ r. ⌜ ((s : Register) → start ≡ word (after s (take n (now (bytes .entry)))) → r ≡ word (after s (now (bytes .entry)))) ⌝ }
+{
+    let mut crc = start;
+    let mut i = n;
+    while i < bytes.len() {
+        crc = sum::step(crc, bytes[i]);
+        i += 1;
+    }
+    crc
+}
+
+// The bytes from n on, fewer than a word has.
+fn rest(crc: u16, bytes: &[u8], n: usize) -> u16
+    requires { ⌜ (n ≤ length (now bytes)) × (length (now bytes) < n + 8) × (n % 8 ≡ 0) ⌝ }
     ensures { λ r. ⌜ ((s : Register) → crc ≡ word (after s (take n (now (bytes .entry)))) → r ≡ word (after s (now (bytes .entry)))) ⌝ }
 {
-    if n < bytes.len() {
-        return sum::step(crc, bytes[n]);
-    }
-    crc
-}
-
-// Fewer bytes than a word has.
-fn rest(crc: u16, bytes: &[u8]) -> u16
-    requires { ⌜ length (now bytes) < 8 ⌝ }
-    ensures { λ r. ⌜ ((s : Register) → crc ≡ word s → r ≡ word (after s (now (bytes .entry)))) ⌝ }
-{
     let m = bytes.len() / 4 * 4;
-    let k = bytes.len() / 2 * 2;
-    last(pair(half(crc, bytes, m), bytes, m, k), bytes, k)
+    ones(half(crc, bytes, n, m), bytes, m)
 }
 
-// The register's word after the bytes lent, of every length: the quickest for some ten bytes. What is handed on is a part, `n..`: the
-// slice as it came would be copied first.
+// The register's word after the bytes lent, of every length: the quickest for some ten bytes.
 pub fn few(start: u16, bytes: &[u8]) -> u16
     ensures { λ r. ⌜ ((s : Register) → start ≡ word s → r ≡ word (after s (now (bytes .entry)))) ⌝ }
 {
     let n = bytes.len() / 8 * 8;
-    let crc = words(start, bytes, n);
-    if bytes.len() - n < 2 {
-        return last(crc, bytes, n);
-    }
-    rest(crc, &bytes[n..])
+    rest(words(start, bytes, n), bytes, n)
 }
 
 fn eights(start: u16, bytes: &[u8], n: usize) -> u16
@@ -204,5 +180,5 @@ pub fn fed(start: u16, bytes: &[u8]) -> u16
     ensures { λ r. ⌜ ((s : Register) → start ≡ word s → r ≡ word (after s (now (bytes .entry)))) ⌝ }
 {
     let n = bytes.len() / 8 * 8;
-    rest(eights(start, bytes, n), &bytes[n..])
+    rest(eights(start, bytes, n), bytes, n)
 }

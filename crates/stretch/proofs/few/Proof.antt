@@ -1,25 +1,13 @@
 -- `stretch::few` meets its contract: the words, and the others behind them.
 -- Assumes nothing.
-use mathlib.Core.Path.{ap, _∙_}
-use Prim.Native.Nat.{_*_, _/_, _≤_}
 use borrow.Author.Needs.{needs}
-use lib.ListN.{length, take}
-use Rattle.sum.specs.Sum.{after, word}
-use Rattle.stretch.proofs.Stretching.{whole}
 use Rattle.stretch.proofs.few.Statement.{statement}
 use Rattle.stretch.proofs.few.Tie as tie
 
 returns : tie.Need-returns
-returns c = λ s e. c .last .ensures s (c .before .before .words .ensures s e)
-
-returns-2 : tie.Need-returns-2
-returns-2 c = λ s e.
-    let xs = c .before .before .before .before .before .args .bytes .now in
-    let n = length xs / 8 * 8 in
-    let h : n ≤ length xs = search needs in
-    c .rest .ensures (after s (take n xs)) (c .before .before .before .words .ensures s e) ∙ ap word (whole s xs n h)
+returns c = λ s e. c .rest .ensures s (c .before .words .ensures s e)
 
 pub few-spec : {M : Type 1} → statement M
 few-spec =
     tie.close
-    (tie.spec (λ c. search needs) (λ c κs. search needs) (λ c. search needs) (λ c κs. search needs) returns (λ c. search needs) (λ c. search needs) (λ c. search needs) (λ c κs. search needs) returns-2)
+    (tie.spec (λ c. search needs) (λ c κs. search needs) (λ c κs. search needs) returns)
