@@ -1,4 +1,4 @@
--- The streams of a packet that the items' rules do not refuse: their entries, their data, and where the slots have them.
+-- The streams of a packet that the items' rules do not refuse: their entries, their data, and where they lie.
 -- Assumes nothing.
 use mathlib.Core.Bool.{Bool, true, false, _&&_, _||_}
 use mathlib.Core.List.{List, [], _∷_, _++_}
@@ -17,7 +17,7 @@ use Rattle.octets.proofs.Storing.{put-none, put-chain, put-length}
 use Rattle.frame.specs.Frame.{stlTotal}
 use Rattle.frame.proofs.Streams.{total-append}
 use Rattle.items.specs.TagItems.{Item, itemsOf, isStream, valuesOf, valueOf, highestIn, eachOnce}
-use Rattle.items.specs.Slots.{ValueAt}
+use Rattle.items.specs.PassNotes.{ValueAt}
 use Rattle.items.proofs.ItemList.{both, Words, value-words}
 use Rattle.tags.specs.TagValues.{ficIn, ficlIn, lengthFor, entryBy, entryIn}
 use Rattle.tags.proofs.TagLaws.{fic-long}

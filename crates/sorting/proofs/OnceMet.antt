@@ -1,4 +1,4 @@
--- What the slots show of a packet: values that were met once, and the numbers of the items' rules.
+-- What the pass notes of a packet: values that were met once, and the numbers of the items' rules.
 -- Assumes nothing.
 use mathlib.Core.Bool.{Bool, true, false, not, _&&_}
 use mathlib.Core.List.{List, [], _∷_}
@@ -13,7 +13,7 @@ use Rattle.octets.specs.Choice.{pick}
 use Rattle.frame.specs.Rules.{first}
 use Rattle.frame.proofs.FirstRule.{none-hold}
 use Rattle.items.specs.TagItems.{Item, itemsOf, partOf, numberBy, someBad, valuesOf, valueOf, highestIn, eachOnce}
-use Rattle.items.specs.Slots.{tallyOf, Holds, Noted, ValueAt, Placed}
+use Rattle.items.specs.PassNotes.{tallyOf, Holds, Noted, ValueAt, Placed}
 use Rattle.items.proofs.ItemList.{both}
 use Rattle.tags.specs.TagValues.{lengthFor, levelIn}
 use Rattle.sorting.specs.declared.Sorted.{Sorted}

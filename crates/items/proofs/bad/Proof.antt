@@ -1,6 +1,6 @@
 use native.Mathlib.Omega.{arith}
 use borrow.Author.Tests.{eq-eqb, ne-eqb, lt-ltb, le-ltb, le-leb, lt-leb}
-use Rattle.items.specs.Slots.{badBy}
+use Rattle.items.specs.PassNotes.{badBy}
 use Rattle.items.proofs.bad.Statement.{statement}
 use Rattle.items.proofs.bad.Tie as tie
 
