@@ -18,7 +18,7 @@ use Rattle.frame.specs.declared.Fields.{Fields}
 use Rattle.frame.specs.declared.Stream.{Stream}
 use Rattle.frame.specs.Frame.{ficlBy, sstcWidths, stlTotal}
 use Rattle.frame.specs.Rules.{Rule, _when_, first, someStlAbove}
-use Rattle.frame.specs.Answers.{digit, tableBy}
+use Rattle.frame.specs.Answers.{tableBy}
 use Rattle.frame.specs.Writing.{entriesOf, flIn, someWider, streamValues, someStreamWider, wider, writingRulesOf, writingRefusalOf, frameIn, writtenOf, Writes}
 use Rattle.frame.proofs.FirstRule.{none-hold, first-zero, first-found}
 use Rattle.frame.proofs.Headers.{digit-of}

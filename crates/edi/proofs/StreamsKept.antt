@@ -1,9 +1,9 @@
--- The streams of a packet that the items' rules do not refuse: their entries, their data, and where the slots have them.
+-- The streams of a packet that the items' rules do not refuse: their entries, their data, and where they lie.
 -- Assumes nothing.
-use mathlib.Core.Bool.{Bool, true, false, _&&_, _||_}
+use mathlib.Core.Bool.{Bool, true, false, _||_}
 use mathlib.Core.List.{List, [], _∷_, _++_}
 use mathlib.Core.Path.{_≡_, refl, sym, ap, subst, _∙_}
-use Prim.Native.Nat.{ℕ, zero, suc, _+_, _-_, _*_, _/_, _≤_, _<_}
+use Prim.Native.Nat.{ℕ, zero, suc, _+_, _-_, _*_, _≤_, _<_}
 use native.Mathlib.Nat.{zero-add}
 use native.Mathlib.Numerals.{add-one}
 use native.Mathlib.Omega.{arith}
@@ -17,13 +17,13 @@ use Rattle.octets.proofs.Storing.{put-none, put-chain, put-length}
 use Rattle.frame.specs.Frame.{stlTotal}
 use Rattle.frame.proofs.Streams.{total-append}
 use Rattle.items.specs.TagItems.{Item, itemsOf, isStream, valuesOf, valueOf, highestIn, eachOnce}
-use Rattle.items.specs.Slots.{ValueAt}
+use Rattle.items.specs.PassNotes.{ValueAt}
 use Rattle.items.proofs.ItemList.{both, Words, value-words}
 use Rattle.tags.specs.TagValues.{ficIn, ficlIn, lengthFor, entryBy, entryIn}
 use Rattle.tags.proofs.TagLaws.{fic-long}
 use Rattle.sorting.proofs.OnceMet.{highest-small, managed-once, managed-called, Clear, clear}
 use Rattle.edi.specs.Regenerating.{entriesTo, dataTo, mainFor}
-use Rattle.edi.specs.EdiClauses.{longTo, Kept, Short}
+use Rattle.edi.specs.EdiClauses.{longTo, Kept}
 
 -- ---- one more
 pub long-more : (lens : List ℕ) (n : ℕ) → longTo lens (n + 1) ≡ (longTo lens n || ltb 8194 (getD lens (n + 1) 0))

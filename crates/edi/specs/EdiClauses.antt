@@ -8,7 +8,7 @@ use lib.Dec.{eqb, ltb}
 use lib.ListN.{getD}
 use Rattle.frame.specs.Rules.{Rule, _when_, first}
 use Rattle.items.specs.TagItems.{itemsOf, highestIn}
-use Rattle.items.specs.Slots.{Placed}
+use Rattle.items.specs.PassNotes.{Placed}
 use Rattle.sorting.specs.TagRules.{itemRulesOf}
 
 -- one of the streams 1 to n is of 1,024 words or more

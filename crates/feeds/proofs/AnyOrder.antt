@@ -1,18 +1,18 @@
 -- The way round: a frame put into items, in any order and with others between them, and regenerated, is the same frame.
 -- Assumes nothing.
-use mathlib.Core.Bool.{Bool, true, false, _&&_, _||_}
+use mathlib.Core.Bool.{Bool, true, false, _||_}
 use mathlib.Core.List.{List, [], _∷_, _++_}
-use mathlib.Core.Logic.{_⊎_, inl, inr, ⊎-elim}
+use mathlib.Core.Logic.{_⊎_, inr, ⊎-elim}
 use mathlib.Core.Path.{_≡_, refl, sym, ap, subst, _∙_}
-use Prim.Native.Nat.{ℕ, _+_, _*_, _/_, _%_, _≤_, _<_, max}
+use Prim.Native.Nat.{ℕ, _+_, _/_, _%_, _≤_, _<_, max}
 use native.Mathlib.Omega.{arith}
-use borrow.Author.Tests.{eq-eqb, ne-eqb, le-ltb, eqb-true}
-use lib.Dec.{eqb, ltb}
+use borrow.Author.Tests.{eq-eqb, ne-eqb, le-ltb}
+use lib.Dec.{eqb}
 use lib.ListN.{length, length-append}
-use Rattle.octets.specs.Choice.{pick, placeIn}
+use Rattle.octets.specs.Choice.{placeIn}
 use Rattle.octets.proofs.Deciding.{neither}
 use Rattle.frame.specs.Frame.{fsyncs, fsyncOf, nstOf}
-use Rattle.frame.specs.Rules.{refusalOf, Acceptable}
+use Rattle.frame.specs.Rules.{refusalOf}
 use Rattle.frame.specs.Answers.{digit}
 use Rattle.frame.specs.Writing.{Bytes, Clean}
 use Rattle.frame.proofs.Accepting.{acceptable}

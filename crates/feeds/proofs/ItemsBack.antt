@@ -6,7 +6,7 @@ use Prim.Native.Nat.{ℕ, _+_, _/_, _≤_, _<_}
 use native.Mathlib.Omega.{arith}
 use lib.ListN.{length, take, drop, length-append}
 use lib.Seq.{take-at, drop-at}
-use Rattle.octets.specs.Words.{split, bytes4, wordAt}
+use Rattle.octets.specs.Words.{bytes4, wordAt}
 use Rattle.octets.proofs.SplitJoin.{join-split}
 use Rattle.items.specs.TagItems.{Item, itemIn, itemsOf}
 use Rattle.items.proofs.ItemList.{items-none, items-more}

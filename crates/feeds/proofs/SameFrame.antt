@@ -9,10 +9,10 @@ use native.Mathlib.Omega.{arith}
 use borrow.Author.Tests.{eq-eqb, le-ltb}
 use lib.Dec.{eqb}
 use lib.ListN.{length, getD, drop}
-use Rattle.octets.specs.Choice.{pick, placeIn}
+use Rattle.octets.specs.Choice.{placeIn}
 use Rattle.frame.specs.declared.Span.{Span}
 use Rattle.frame.specs.declared.Stream.{Stream}
-use Rattle.frame.specs.Frame.{statuses, fsyncs, errOf, fsyncOf, fctOf, ficfOf, nstOf, fpOf, midOf, flOf, ficlBy, mnscOf, rfuOf, rfaOf, timeOf, streamOf, streamsTo, streamsOf, stlTotal, flBy, mainOf, ficSpan, streamSpan, spansTo, cut, cuts}
+use Rattle.frame.specs.Frame.{statuses, fsyncs, errOf, fsyncOf, nstOf, flOf, ficlBy, streamsTo, streamsOf, stlTotal, flBy, mainOf, ficSpan, streamSpan, spansTo, cut, cuts}
 use Rattle.frame.specs.Rules.{refusalOf, Acceptable}
 use Rattle.frame.specs.Answers.{digit, timestampValues, returningOf}
 use Rattle.frame.specs.Writing.{entriesOf, valuesIn, writingRulesOf, writingRefusalOf, frameIn, Bytes, Clean}

@@ -8,7 +8,7 @@ use native.Mathlib.Nat.{div-add-mod'}
 use native.Mathlib.Omega.{arith}
 use borrow.Author.Tests.{lt-ltb, le-ltb, ltb-true, ltb-false, eqb-true, not-false}
 use lib.Dec.{eqb, ltb}
-use lib.ListN.{length, getD, take, drop, length-take, length-drop}
+use lib.ListN.{length, getD, drop, length-take, length-drop}
 use Rattle.octets.specs.Choice.{pick}
 use Rattle.octets.specs.Words.{wordAt}
 use Rattle.octets.proofs.Deciding.{or-assoc, neither}

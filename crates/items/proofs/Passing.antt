@@ -12,7 +12,7 @@ use lib.Seq.{getD-set-same, getD-set-other, drop-drop, append-snoc, take-all}
 use Rattle.octets.specs.Words.{wordAt}
 use Rattle.items.specs.declared.Seen.{Seen}
 use Rattle.items.specs.TagItems.{Item, itemIn, itemsOf, partOf, isBad, someBad, valuesOf, numberBy, highestIn}
-use Rattle.items.specs.Slots.{tallyOf, moreBy, badBy, LooksAt, Holds, Noted, Passed}
+use Rattle.items.specs.PassNotes.{tallyOf, moreBy, badBy, LooksAt, Holds, Noted, Passed}
 use Rattle.items.proofs.ItemList.{items-none, items-more, bad-append, values-append, highest-append, clash, SoundItem, sound-item}
 
 -- ---- a look: a value that runs past is shorter than its length says

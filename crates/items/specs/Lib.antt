@@ -1,2 +1,2 @@
 pub mod TagItems
-pub mod Slots
+pub mod PassNotes

@@ -3,7 +3,7 @@ ghost use mathlib.Core.Path.{_≡_};
 ghost use Prim.Native.Nat.{_+_, _≤_, min, max};
 ghost use lib.ListN.{length, take, drop};
 ghost use Rattle.items.specs.TagItems.{partOf, numberBy};
-ghost use Rattle.items.specs.Slots.{moreBy, badBy, LooksAt, Passed};
+ghost use Rattle.items.specs.PassNotes.{moreBy, badBy, LooksAt, Passed};
 
 // A look at an item: which part it is, whether it is bad, its value's length.
 struct Seen {

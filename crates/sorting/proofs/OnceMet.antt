@@ -1,6 +1,6 @@
--- What the slots show of a packet: values that were met once, and the numbers of the items' rules.
+-- What the pass notes of a packet: values that were met once, and the numbers of the items' rules.
 -- Assumes nothing.
-use mathlib.Core.Bool.{Bool, true, false, not, _&&_}
+use mathlib.Core.Bool.{Bool, true, false, _&&_}
 use mathlib.Core.List.{List, [], _∷_}
 use mathlib.Core.Path.{_≡_, refl, sym, ap, ap₂, _∙_}
 use Prim.Native.Nat.{ℕ, zero, suc, _+_, _≤_, _<_}
@@ -8,15 +8,14 @@ use native.Mathlib.Numerals.{add-one}
 use native.Mathlib.Omega.{arith}
 use borrow.Author.Tests.{eq-eqb, ne-eqb, lt-ltb, le-ltb, leb-true, eqb-true, ltb-false, not-false}
 use lib.Dec.{eqb, ltb, leb}
-use lib.ListN.{length, getD, take, drop}
+use lib.ListN.{length, getD}
 use Rattle.octets.specs.Choice.{pick}
 use Rattle.frame.specs.Rules.{first}
 use Rattle.frame.proofs.FirstRule.{none-hold}
 use Rattle.items.specs.TagItems.{Item, itemsOf, partOf, numberBy, someBad, valuesOf, valueOf, highestIn, eachOnce}
-use Rattle.items.specs.Slots.{tallyOf, Holds, Noted, ValueAt, Placed}
+use Rattle.items.specs.PassNotes.{tallyOf, Holds, Noted, ValueAt, Placed}
 use Rattle.items.proofs.ItemList.{both}
 use Rattle.tags.specs.TagValues.{lengthFor, levelIn}
-use Rattle.sorting.specs.declared.Sorted.{Sorted}
 use Rattle.sorting.specs.TagRules.{isManaged, itemRulesOf, Sorts}
 use Rattle.sorting.specs.SortClauses.{onceTo, Sound}
 

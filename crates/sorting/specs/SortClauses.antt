@@ -3,11 +3,11 @@
 use mathlib.Core.Bool.{Bool, true, false, _&&_}
 use mathlib.Core.List.{List}
 use mathlib.Core.Path.{_≡_}
-use Prim.Native.Nat.{ℕ, zero, suc, _+_, _≤_, _<_}
+use Prim.Native.Nat.{ℕ, zero, suc, _<_}
 use lib.Dec.{eqb}
 use lib.ListN.{getD}
 use Rattle.items.specs.TagItems.{itemsOf, someBad, valuesOf, highestIn}
-use Rattle.items.specs.Slots.{tallyOf, Holds}
+use Rattle.items.specs.PassNotes.{tallyOf, Holds}
 
 -- each of the streams 1 to n was met once
 unfoldable pub onceTo : List ℕ → ℕ → Bool

@@ -8,7 +8,7 @@ use lib.Dec.{eqb, ltb}
 use lib.ListN.{length}
 use Rattle.frame.specs.Rules.{Rule, _when_, first}
 use Rattle.items.specs.TagItems.{Item, itemsOf, someBad, valuesOf, valueOf, highestIn, eachOnce}
-use Rattle.items.specs.Slots.{Placed}
+use Rattle.items.specs.PassNotes.{Placed}
 use Rattle.tags.specs.TagValues.{lengthFor, levelIn}
 use Rattle.sorting.specs.declared.Sorted.{Sorted}
 

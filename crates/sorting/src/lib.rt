@@ -3,7 +3,7 @@ ghost use mathlib.Core.Path.{_≡_};
 ghost use Prim.Native.Nat.{_≤_};
 ghost use Rattle.frame.specs.Rules.{first};
 ghost use Rattle.items.specs.TagItems.{itemsOf, valuesOf, valueOf};
-ghost use Rattle.items.specs.Slots.{Holds, ValueAt};
+ghost use Rattle.items.specs.PassNotes.{Holds, ValueAt};
 ghost use Rattle.tags.specs.TagValues.{levelIn};
 ghost use Rattle.sorting.specs.TagRules.{isManaged, itemRulesOf, Sorts};
 ghost use Rattle.sorting.specs.SortClauses.{onceTo, Sound};

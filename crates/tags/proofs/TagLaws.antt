@@ -11,7 +11,7 @@ use lib.ListN.{length, drop, length-drop}
 use lib.Seq.{length-take-le}
 use Rattle.octets.specs.Choice.{pick}
 use Rattle.frame.specs.Frame.{ficlBy}
-use Rattle.tags.specs.TagValues.{atstfIn, ficfIn, rfudfIn, ficlIn, ficIn, ficPlace, rfudPlace, lengthFor}
+use Rattle.tags.specs.TagValues.{atstfIn, ficfIn, ficlIn, ficIn, ficPlace, rfudPlace, lengthFor}
 
 pub atstf-bit : (m : List ℕ) → atstfIn m < 2
 unfolding atstfIn

@@ -46,7 +46,9 @@ mul-table : tie.Need-mul-table Inv-loop μ-loop
 mul-table c = let h = kept-count _ _ _ _ (c .before .before .before .before .before .pre .kept) in omega arith
 
 array-set-from-table : tie.Need-array-set-from-table Inv-loop μ-loop
-array-set-from-table c = let h = kept-count _ _ _ _ (c .before .before .before .before .before .pre .kept) in omega arith
+array-set-from-table c =
+    let h = kept-count _ _ _ _ (c .before .before .before .before .before .pre .kept) in
+    omega arith
 
 loop-again : tie.Need-loop-again Inv-loop μ-loop
 loop-again c =

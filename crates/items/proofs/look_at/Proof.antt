@@ -1,7 +1,7 @@
 use mathlib.Core.List.{List}
 use mathlib.Core.Path.{subst}
 use Prim.Native.Nat.{ℕ}
-use Rattle.items.specs.Slots.{LooksAt}
+use Rattle.items.specs.PassNotes.{LooksAt}
 use Rattle.items.proofs.Passing.{take-rest}
 use borrow.Author.Needs.{needs}
 use Rattle.items.proofs.look_at.Statement.{statement}

@@ -1,6 +1,6 @@
 -- What one pass over a packet notes: for each name, how often its item was met, and where the last one's value lies.
 -- Assumes nothing.
-use mathlib.Core.Bool.{Bool, false, true, not, _&&_, _||_}
+use mathlib.Core.Bool.{Bool, false, not, _&&_, _||_}
 use mathlib.Core.List.{List, [], _∷_}
 use mathlib.Core.Path.{_≡_}
 use Prim.Native.Nat.{ℕ, _+_, _-_, _/_, _%_, _≤_, _<_}
