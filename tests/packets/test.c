@@ -158,8 +158,8 @@ static void managements(void) {
     for (i = 0; i < 32; i++) {
         m.atst = i & 1, m.ficf = i >> 1 & 1, m.rfud = i >> 2 & 1, m.mid = i >> 3;
         end = 0, deti(&m, 0), made("flags and mode", &m, NULL, 0);
-        end = 0, deti(&m, 1), refused("a byte more", SPINDLEWREN_MANAGEMENT);
-        end = 0, deti(&m, -1), refused("a byte less", SPINDLEWREN_MANAGEMENT);
+        end = 0, deti(&m, 1), refused("a byte more", SPINDLEWREN_MANAGEMENT_ITEM);
+        end = 0, deti(&m, -1), refused("a byte less", SPINDLEWREN_MANAGEMENT_ITEM);
     }
     for (i = 0, m = plain; i < 256; i++) {
         m.stat = i, end = 0, deti(&m, 0);
@@ -170,12 +170,12 @@ static void managements(void) {
     for (i = 0xFA0000; i >= 0xFA0000 && i <= 0xFFFFFF; i = i == 0xFA0000 ? 0xFFFFFE : i + 1) m = plain, m.tsta = i, end = 0, deti(&m, 0), made("TSTA", &m, NULL, 0);
     for (i = 0; i < 8; i++) {
         end = 0, memset(packet, 0, 8);
-        call("no items", i, 0, FRAME, SPINDLEWREN_MANAGEMENT, NULL);
+        call("no items", i, 0, FRAME, SPINDLEWREN_MANAGEMENT_ITEM, NULL);
         deti(&plain, 0), end += i, made("padding", &plain, NULL, 0);
     }
-    end = 0, deti(&plain, 0), deti(&plain, 0), refused("management twice", SPINDLEWREN_MANAGEMENT);
-    end = 0, head("det", 'i', 40), put(packet + end, 5, 0), end += 5, refused("five bytes of management", SPINDLEWREN_MANAGEMENT);
-    end = 0, head("det", 'i', 0), refused("no bytes of management", SPINDLEWREN_MANAGEMENT);
+    end = 0, deti(&plain, 0), deti(&plain, 0), refused("management twice", SPINDLEWREN_MANAGEMENT_ITEM);
+    end = 0, head("det", 'i', 40), put(packet + end, 5, 0), end += 5, refused("five bytes of management", SPINDLEWREN_MANAGEMENT_ITEM);
+    end = 0, head("det", 'i', 0), refused("no bytes of management", SPINDLEWREN_MANAGEMENT_ITEM);
 }
 
 /* One stream item of any length in bits, with its bytes; and a stranger's. */
@@ -208,10 +208,10 @@ static void numbers(void) {
         else made("one number", &plain, s, 0);
     }
     end = 0, deti(&plain, 0), est(&s[0]), est(&s[1]), est(&s[0]), refused("a stream twice", SPINDLEWREN_STREAM_NUMBERS);
-    end = 0, est(&s[1]), refused("21 before 22", SPINDLEWREN_MANAGEMENT);
+    end = 0, est(&s[1]), refused("21 before 22", SPINDLEWREN_MANAGEMENT_ITEM);
     m.stat = 1;
     end = 0, deti(&m, 0), est(&s[1]), refused("22 before 35", SPINDLEWREN_STREAM_NUMBERS);
-    end = 0, deti(&m, 1), est(&s[0]), refused("21 before 35", SPINDLEWREN_MANAGEMENT);
+    end = 0, deti(&m, 1), est(&s[0]), refused("21 before 35", SPINDLEWREN_MANAGEMENT_ITEM);
     end = 0, est(&s[1]), head("inf", 'o', 4), byte(0), refused("20 before 21", SPINDLEWREN_BAD_ITEM);
     m = plain, m.fct = 250, m.stat = 1, end = 0, deti(&m, 0), refused("35 before 7", SPINDLEWREN_ITEM_STATUS);
 }
@@ -267,7 +267,7 @@ static void truncations(void) {
                 done = next;
             }
             if (i - done >= 8) call("cut off", i, 0, FRAME, SPINDLEWREN_BAD_ITEM, NULL);
-            else if (!managed) call("cut off", i, 0, FRAME, SPINDLEWREN_MANAGEMENT, NULL);
+            else if (!managed) call("cut off", i, 0, FRAME, SPINDLEWREN_MANAGEMENT_ITEM, NULL);
             else frame(f, &plain, s, n, 0), call("cut off", i, 0, FRAME, 0, f);
         }
     }
