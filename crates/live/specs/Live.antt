@@ -13,7 +13,6 @@ use Rattle.walk.specs.declared.Item.the-variants.{Frame, Lost, Idle, Done}
 use Rattle.walk.specs.declared.State.{State}
 use Rattle.walk.specs.declared.Step.{Step}
 use Rattle.walk.specs.Records.{part, allowed, within, stepAt}
-use Rattle.live.specs.declared.Told.{Told}
 use Rattle.live.specs.declared.Told.the-variants.{Got, More}
 use Rattle.live.specs.declared.LiveStep.{LiveStep}
 
