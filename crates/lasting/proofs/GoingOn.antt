@@ -150,8 +150,8 @@ module _ (w : List ℕ) (s : State) (near : s .position .place + length w < far)
   got-goes = by-shown (λ r. (x : Item) → r .told ≡ Got x → (isDone x ≡ false) × (s .position .place < r .walk .position .place))
       (λ e x z. let y : _≡_ {A = ℕ} 0 1 = cc in absurd (omega arith))
       (λ e x z.
-          let y : laterItem (s .position .place) (stepAt w (atStart s) .item) ≡ x = cc in
-          (ap isDone (sym y) ∙ done-later (s .position .place) (stepAt w (atStart s) .item) ∙ e, omega (arith, goes-ahead w (atStart s) e)))
+      let y : laterItem (s .position .place) (stepAt w (atStart s) .item) ≡ x = cc in
+      (ap isDone (sym y) ∙ done-later (s .position .place) (stepAt w (atStart s) .item) ∙ e, omega (arith, goes-ahead w (atStart s) e)))
 
   -- where more bytes are wanted, the window shows no item
   pub shows-none : (q : ℕ) → liveAt w true s .told ≡ More q → isDone (stepAt w (atStart s) .item) ≡ true

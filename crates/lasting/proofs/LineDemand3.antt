@@ -153,7 +153,7 @@ line-periods {m} ok {came} {s} {xs} r h q e earlier x later i p head f n room u 
     let j = length later in
     let lx : length xs + n ≡ length earlier + suc (j + n) = omega (arith, ap length i, length-append earlier (x ∷ later)) in
     let whole : map outOf (callsAt came (length earlier) (start m)) ++ map outOf (callsAt came (suc (j + n)) at) ≡ earlier ++ (x ∷ (later ++ replicate n (doneOut d)))
-        = sym (calls-join came (length earlier) (suc (j + n)) (start m)) ∙ ap (λ (k : ℕ). map outOf (callsAt came k (start m))) (sym lx) ∙ all n ∙ ap (λ (l : List Out). l ++ replicate n (doneOut d)) i ∙ append-assoc earlier (x ∷ later) (replicate n (doneOut d)) in
+    = sym (calls-join came (length earlier) (suc (j + n)) (start m)) ∙ ap (λ (k : ℕ). map outOf (callsAt came k (start m))) (sym lx) ∙ all n ∙ ap (λ (l : List Out). l ++ replicate n (doneOut d)) i ∙ append-assoc earlier (x ∷ later) (replicate n (doneOut d)) in
     let rest : outOf (stepAt came at) ∷ map outOf (callsAt came (j + n) (stepAt came at .walk)) ≡ x ∷ (later ++ replicate n (doneOut d)) = behind (map outOf (callsAt came (length earlier) (start m))) (map outOf (callsAt came (suc (j + n)) at)) earlier (x ∷ (later ++ replicate n (doneOut d))) (length-calls came (length earlier) (start m)) whole in
     let y : outOf (stepAt came at) ≡ x = cc in
     let z : map outOf (callsAt came (j + n) (stepAt came at .walk)) ≡ later ++ replicate n (doneOut d) = cc in

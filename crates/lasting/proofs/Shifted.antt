@@ -192,6 +192,6 @@ hunt-clear m w ok k n e h = go (F .why)
     go (inl c) =
         let r = confirmed-room m w (F .end) c in
         let q : stepAt w (within m (hunting 0 k)) .item ≡ frameAt (judged m w) (F .end)
-            = ap (λ (x : Step). x .item) (step-is w m ok (hunting 0 k)) ∙ ap (λ (x : Stepped). x .item) (passed-step m w k (F .passed) ∙ step-confirmed (judged m w) (lit< tt) (F .end) k (omega arith) c) in
+        = ap (λ (x : Step). x .item) (step-is w m ok (hunting 0 k)) ∙ ap (λ (x : Stepped). x .item) (passed-step m w k (F .passed) ∙ step-confirmed (judged m w) (lit< tt) (F .end) k (omega arith) c) in
         let z : true ≡ false = sym n ∙ ap isDone q in let y : _≡_ {A = ℕ} 0 1 = cc in absurd (omega arith)
     go (inr l) = record { ahead = omega arith; room = λ p x y. omega arith; clear = λ p x y. F .passed .clear p x (omega arith) }
