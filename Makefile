@@ -1,5 +1,5 @@
 # make run: lists a record, samples/four.eti or RECORD=file. make example: the same from C. make line-example: the same of a live line, from standard input. make test: the gate.
-# make command: the command spindlewren, for engineers. make rows: the bench figures. make soak: the comparison with the Rust implementation for SECONDS, from SEED on. make bench: times.
+# make command: the command spindlewren, for engineers. make rows: the bench figures. make soak: a gigabyte through a pipe, then the comparison with the Rust implementation for SECONDS, from SEED on. make bench: times.
 .PHONY: run rows example line-example command soak bench test
 RECORD = samples/four.eti
 SECONDS = 600
@@ -34,6 +34,7 @@ target/command/spindlewren: $(wildcard command/*) include/spindlewren.h tools/li
 	@$(CC) -std=c99 -O2 -Wall -Wextra -Wpedantic -Werror -Iinclude command/*.c "$$(tools/library)" -o $@
 
 soak:
+	@tests/live/gigabyte
 	@tests/independent/run --seed $(SEED) --seconds $(SECONDS)
 
 bench:

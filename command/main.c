@@ -18,6 +18,7 @@ static void help(FILE *to) {
     fprintf(to, "usage: spindlewren VERB ..\n");
     for (i = 0; i < VERBS; i++) fprintf(to, "  spindlewren %s\n", verbs[i].help);
     fprintf(to, "  spindlewren --help\n"
+                "FILE: -, but for why, is standard input: any length, each item told as soon as it is there.\n"
                 "M: so many lost marks in a row end the lock, 1 to 8, 3 unless given. PLACE: a byte's number in the file, from 0 on.\n"
                 "Exit status: 0 done, 1 could not, 2 wrong use.\n");
 }
