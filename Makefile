@@ -1,7 +1,7 @@
-# make run: lists a record, samples/four.eti or RECORD=file. make example: the same from C. make test: the gate.
+# make run: lists a record, samples/four.eti or RECORD=file. make example: the same from C. make line-example: the same of a live line, from standard input. make test: the gate.
 # make command: the command spindlewren, for engineers. make install PREFIX=..: command, headers, static library, pkg-config file and manual page; make uninstall.
-# make rows: the bench figures. make soak: the comparison with the Rust implementation for SECONDS, from SEED on. make bench: times.
-.PHONY: run rows example command install uninstall soak bench test
+# make rows: the bench figures. make soak: a gigabyte through a pipe, then the comparison with the Rust implementation for SECONDS, from SEED on. make bench: times.
+.PHONY: run rows example line-example command install uninstall soak bench test
 RECORD = samples/four.eti
 SECONDS = 600
 SEED = $(shell date +%s)
@@ -18,6 +18,14 @@ example: target/example/controller
 target/example/controller: examples/controller.c include/spindlewren.h $(shell find crates crates.txt -type f)
 	@mkdir -p target/example
 	@$(CC) -std=c99 -O2 -Wall -Wextra -Wpedantic -Werror -Iinclude examples/controller.c "$$(tools/archive controller)" "$$(tools/archive sizing)" "$$(tools/archive profiles)" -o $@
+
+# the line from standard input
+line-example: target/example/line
+	@target/example/line
+
+target/example/line: examples/line.c include/spindlewren.h $(shell find crates crates.txt -type f)
+	@mkdir -p target/example
+	@$(CC) -std=c99 -O2 -Wall -Wextra -Wpedantic -Werror -Iinclude examples/line.c "$$(tools/archive controller)" "$$(tools/archive living)" -o $@
 
 command: target/command/spindlewren
 	@echo "$(CURDIR)/target/command/spindlewren"
@@ -43,6 +51,7 @@ uninstall:
 	@rm -f $(under)/bin/spindlewren $(HEADERS:%=$(under)/include/%) $(under)/lib/libspindlewren.a $(under)/lib/pkgconfig/spindlewren.pc $(under)/share/man/man1/spindlewren.1
 
 soak:
+	@tests/live/gigabyte
 	@tests/independent/run --seed $(SEED) --seconds $(SECONDS)
 
 bench:

@@ -43,6 +43,7 @@ void why(const struct request *asked);
 void keep_log(const struct request *asked);
 void sheet(const struct request *asked);
 
+/* A recorded file, or, where it is called -, standard input: a line whose bytes come in pieces, of which few are kept. */
 struct record {
     const uint8_t *bytes;
     size_t len;
@@ -51,11 +52,22 @@ struct record {
 /* The whole file, mapped, so that its size does not matter. Ends the command where that cannot be. */
 struct record map(const char *file);
 
-/* A walk over the file from its beginning: the heading, if there is one, once nothing is refused, and then each item is told, done the last, as the walk's bytes have it. */
-void each_item(const struct request *asked, const char *heading, void (*tell)(struct record record, const uint8_t *walk, void *to), void *to);
+/* Whether a file is standard input. */
+int is_line(const char *file);
+
+/* A walk over the file or the line from its beginning: the heading, if there is one, once nothing is refused, and then each item is told, done the last, as the walk's bytes have it, with the item's
+   bytes in the record. An item of a line is told as soon as it is there. */
+typedef void (*teller)(const uint8_t *item, const uint8_t *walk, void *to);
+void each_item(const struct request *asked, const char *heading, teller tell, void *to);
+
+/* .. of a line. */
+void each_of_line(uint8_t *walk, teller tell, void *to);
 
 /* A number in digits alone; 0 where the word is none. One that is too large for its type is the largest: it is outside every range here. */
 int digits(const char *word, size_t *number);
+
+/* Ends the command with DONE once all is written, or with COULD_NOT. */
+void finish(void);
 
 /* Ends the command with COULD_NOT: the file and the reason on standard error. */
 void fail(const char *file, const char *reason);

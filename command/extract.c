@@ -14,9 +14,8 @@ static void zeros(size_t n) {
     while (n-- > 0) putchar(0);
 }
 
-static void take(struct record record, const uint8_t *walk, void *to) {
+static void take(const uint8_t *frame, const uint8_t *walk, void *to) {
     struct taking *t = to;
-    const uint8_t *frame = record.bytes + spindlewren_number(walk, SPINDLEWREN_ITEM, 8);
     uint8_t part[SPINDLEWREN_PART];
     uint8_t refusal;
     if (walk[SPINDLEWREN_KIND] == SPINDLEWREN_IS_DONE) return;

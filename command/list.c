@@ -1,9 +1,9 @@
-/* list: a line for each item of a record. */
+/* list: a line for each item of a record, or of a line as it comes. */
 #include "command.h"
 
 #include <stdio.h>
 
-static void line(struct record record, const uint8_t *walk, void *to) {
+static void line(const uint8_t *item, const uint8_t *walk, void *to) {
     unsigned long long place = spindlewren_number(walk, SPINDLEWREN_ITEM, 8);
     unsigned number = walk[SPINDLEWREN_NUMBER];
     uint8_t answer[SPINDLEWREN_ANSWER];
@@ -14,7 +14,7 @@ static void line(struct record record, const uint8_t *walk, void *to) {
     case SPINDLEWREN_IS_DONE: printf("end %llu\n", place); break;
     default:
         /* a frame that the walk hands out is accepted */
-        spindlewren_read(record.bytes + place, SPINDLEWREN_FRAME, answer, sizeof answer);
+        spindlewren_read(item, SPINDLEWREN_FRAME, answer, sizeof answer);
         printf("%llu frame %u %u\n", place, answer[SPINDLEWREN_FCT], answer[SPINDLEWREN_LEVEL]);
     }
 }

@@ -3,7 +3,7 @@
 
 #include <stdio.h>
 
-static void keep(struct record record, const uint8_t *walk, void *to) {
+static void keep(const uint8_t *item, const uint8_t *walk, void *to) {
     const char *file = to;
     size_t place = (size_t)spindlewren_number(walk, SPINDLEWREN_ITEM, 8);
     uint8_t kind = walk[SPINDLEWREN_KIND], code = walk[SPINDLEWREN_NUMBER], level = 0xFF;
@@ -12,7 +12,7 @@ static void keep(struct record record, const uint8_t *walk, void *to) {
     if (kind == SPINDLEWREN_IS_DONE) return;
     if (kind == SPINDLEWREN_IS_FRAME) {
         /* a frame that the walk hands out is accepted */
-        spindlewren_read(record.bytes + place, SPINDLEWREN_FRAME, answer, sizeof answer);
+        spindlewren_read(item, SPINDLEWREN_FRAME, answer, sizeof answer);
         code = answer[SPINDLEWREN_FCT];
         level = answer[SPINDLEWREN_LEVEL];
     }

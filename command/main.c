@@ -23,6 +23,7 @@ static void help(FILE *to) {
     fprintf(to, "usage: spindlewren VERB ..\n");
     for (i = 0; i < VERBS; i++) fprintf(to, "  spindlewren %s\n", verbs[i].help);
     fprintf(to, "  spindlewren --help\n"
+                "FILE: -, for a walk, is standard input: any length, each item told as soon as it is there.\n"
                 "M: so many lost marks in a row end the lock, 1 to 8, 3 unless given. PLACE: a byte's number in the file, from 0 on.\n"
                 "Exit status: 0 done, 1 could not, 2 wrong use.\n");
 }
@@ -95,6 +96,6 @@ int main(int argc, char **argv) {
     status = understood(&verbs[i], argc - 2, argv + 2, &asked);
     if (status != DONE) return status;
     verbs[i].run(&asked);
-    if (fflush(stdout) != 0 || ferror(stdout)) fail("standard output", strerror(errno));
+    finish();
     return DONE;
 }

@@ -28,23 +28,23 @@ static void streams(const uint8_t *frame, const uint8_t *found) {
     }
 }
 
-static void judge(struct record record, const uint8_t *walk, void *to) {
+static void judge(const uint8_t *item, const uint8_t *walk, void *to) {
     struct count *count = to;
-    size_t place = (size_t)spindlewren_number(walk, SPINDLEWREN_ITEM, 8);
+    unsigned long long place = spindlewren_number(walk, SPINDLEWREN_ITEM, 8);
     uint8_t found[SPINDLEWREN_COLLISION];
     uint8_t number;
     if (walk[SPINDLEWREN_KIND] != SPINDLEWREN_IS_FRAME) return;
     /* a frame that the walk hands out is accepted */
-    spindlewren_collision(record.bytes + place, SPINDLEWREN_FRAME, found, sizeof found);
+    spindlewren_collision(item, SPINDLEWREN_FRAME, found, sizeof found);
     number = found[SPINDLEWREN_PROFILE];
     count->frames++;
     count->passing += number == 0;
-    printf("%llu: ", (unsigned long long)place);
+    printf("%llu: ", place);
     if (number == 0) {
         puts("passes");
     } else {
         printf("does not pass (refusal %u, %s): ", number, spindlewren_label(number));
-        streams(record.bytes + place, found);
+        streams(item, found);
     }
 }
 

@@ -17,6 +17,11 @@ void fail(const char *file, const char *reason) {
     exit(COULD_NOT);
 }
 
+void finish(void) {
+    if (fflush(stdout) != 0 || ferror(stdout)) fail("standard output", strerror(errno));
+    exit(DONE);
+}
+
 void refuse(const char *file, uint8_t refusal) {
     char reason[96];
     snprintf(reason, sizeof reason, "%s (refusal %u)", spindlewren_label(refusal), refusal);
@@ -56,16 +61,29 @@ int digits(const char *word, size_t *number) {
     return 1;
 }
 
-void each_item(const struct request *asked, const char *heading, void (*tell)(struct record record, const uint8_t *walk, void *to), void *to) {
-    struct record record = map(asked->file);
+int is_line(const char *file) {
+    return strcmp(file, "-") == 0;
+}
+
+static void each_of_record(struct record record, uint8_t *walk, teller tell, void *to) {
+    do {
+        /* a walk that was begun is refused nothing */
+        spindlewren_step(record.bytes, record.len, walk, SPINDLEWREN_WALK);
+        tell(record.bytes + spindlewren_number(walk, SPINDLEWREN_ITEM, 8), walk, to);
+    } while (walk[SPINDLEWREN_KIND] != SPINDLEWREN_IS_DONE);
+}
+
+void each_item(const struct request *asked, const char *heading, teller tell, void *to) {
     uint8_t walk[SPINDLEWREN_WALK];
-    uint8_t refusal = spindlewren_begin(asked->limit, walk, sizeof walk);
-    if (refusal == SPINDLEWREN_ACCEPTED && heading != NULL) puts(heading);
-    while (refusal == SPINDLEWREN_ACCEPTED) {
-        refusal = spindlewren_step(record.bytes, record.len, walk, sizeof walk);
-        if (refusal != SPINDLEWREN_ACCEPTED) break;
-        tell(record, walk, to);
-        if (walk[SPINDLEWREN_KIND] == SPINDLEWREN_IS_DONE) return;
+    uint8_t refusal;
+    struct record record = {NULL, 0};
+    if (!is_line(asked->file)) record = map(asked->file);
+    refusal = spindlewren_begin(asked->limit, walk, sizeof walk);
+    if (refusal != SPINDLEWREN_ACCEPTED) refuse(asked->file, refusal);
+    if (heading != NULL) puts(heading);
+    if (is_line(asked->file)) {
+        each_of_line(walk, tell, to);
+    } else {
+        each_of_record(record, walk, tell, to);
     }
-    refuse(asked->file, refusal);
 }

@@ -47,8 +47,7 @@ static void streams(const uint8_t *frame, size_t place, const uint8_t *answer) {
     }
 }
 
-static void fields(struct record record, size_t place, const uint8_t *answer) {
-    const uint8_t *frame = record.bytes + place;
+static void fields(const uint8_t *frame, size_t place, const uint8_t *answer) {
     uint8_t part[SPINDLEWREN_PART];
     unsigned sent = field(answer, SPINDLEWREN_SENT, 2), worked = field(answer, SPINDLEWREN_WORKED, 2);
     printf("place      %llu\n", (unsigned long long)place);
@@ -72,29 +71,28 @@ static void fields(struct record record, size_t place, const uint8_t *answer) {
     streams(frame, place, answer);
 }
 
-/* The place of the first frame handed out. */
-struct found {
-    int any;
-    size_t place;
-};
-
-static void first(struct record record, const uint8_t *walk, void *to) {
-    struct found *found = to;
-    (void)record;
-    if (found->any || walk[SPINDLEWREN_KIND] != SPINDLEWREN_IS_FRAME) return;
-    found->any = 1;
-    found->place = (size_t)spindlewren_number(walk, SPINDLEWREN_ITEM, 8);
+/* The first frame of a walk; nothing behind it is looked at. */
+static void first(const uint8_t *item, const uint8_t *walk, void *to) {
+    uint8_t answer[SPINDLEWREN_ANSWER];
+    (void)to;
+    if (walk[SPINDLEWREN_KIND] != SPINDLEWREN_IS_FRAME) return;
+    /* a frame that the walk hands out is accepted */
+    spindlewren_read(item, SPINDLEWREN_FRAME, answer, sizeof answer);
+    fields(item, (size_t)spindlewren_number(walk, SPINDLEWREN_ITEM, 8), answer);
+    finish();
 }
 
 void show(const struct request *asked) {
-    struct record record = map(asked->file);
-    struct found found = {asked->placed, asked->place};
+    struct record record;
     uint8_t answer[SPINDLEWREN_ANSWER];
     uint8_t refusal;
-    if (!asked->placed) each_item(asked, NULL, first, &found);
-    if (!found.any) fail(asked->file, "no frame is handed out");
-    if (record.len < SPINDLEWREN_FRAME || found.place > record.len - SPINDLEWREN_FRAME) refuse(asked->file, SPINDLEWREN_PLACE_OUTSIDE);
-    refusal = spindlewren_read(record.bytes + found.place, SPINDLEWREN_FRAME, answer, sizeof answer);
+    if (!asked->placed) {
+        each_item(asked, NULL, first, NULL);
+        fail(asked->file, "no frame is handed out");
+    }
+    record = map(asked->file);
+    if (record.len < SPINDLEWREN_FRAME || asked->place > record.len - SPINDLEWREN_FRAME) refuse(asked->file, SPINDLEWREN_PLACE_OUTSIDE);
+    refusal = spindlewren_read(record.bytes + asked->place, SPINDLEWREN_FRAME, answer, sizeof answer);
     if (refusal != SPINDLEWREN_ACCEPTED) refuse(asked->file, refusal);
-    fields(record, found.place, answer);
+    fields(record.bytes + asked->place, asked->place, answer);
 }

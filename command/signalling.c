@@ -17,14 +17,14 @@ static void message(const struct gathering *g) {
     putchar('\n');
 }
 
-static void gather(struct record record, const uint8_t *walk, void *to) {
+static void gather(const uint8_t *item, const uint8_t *walk, void *to) {
     struct gathering *g = to;
     unsigned long long place = spindlewren_number(walk, SPINDLEWREN_ITEM, 8);
     uint8_t answer[SPINDLEWREN_ANSWER];
     uint8_t number;
     if (walk[SPINDLEWREN_KIND] != SPINDLEWREN_IS_FRAME) return;
     /* a frame that the walk hands out is accepted, and the bytes lent have their lengths */
-    spindlewren_read(record.bytes + place, SPINDLEWREN_FRAME, answer, sizeof answer);
+    spindlewren_read(item, SPINDLEWREN_FRAME, answer, sizeof answer);
     spindlewren_signal_step(answer[SPINDLEWREN_FP], (uint16_t)spindlewren_number(answer, SPINDLEWREN_MNSC, 2), g->signal, sizeof g->signal, g->bytes, sizeof g->bytes);
     g->frames++;
     number = g->signal[SPINDLEWREN_SIGNAL_NUMBER];

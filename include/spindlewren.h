@@ -15,7 +15,7 @@ enum {
     SPINDLEWREN_FRAME = 6144,
     SPINDLEWREN_ANSWER = 406, /* spindlewren_read */
     SPINDLEWREN_PART = 4,     /* spindlewren_fic, spindlewren_stream */
-    SPINDLEWREN_WALK = 21,    /* spindlewren_begin, spindlewren_step */
+    SPINDLEWREN_WALK = 21,    /* spindlewren_begin, spindlewren_step, spindlewren_live */
     SPINDLEWREN_LOOKS = 8,    /* spindlewren_looks */
     SPINDLEWREN_WHY = 10,     /* spindlewren_why */
     SPINDLEWREN_COLLISION = 3, /* spindlewren_collision */
@@ -100,7 +100,8 @@ enum {
     SPINDLEWREN_IS_FRAME = 0,
     SPINDLEWREN_IS_LOST = 1,
     SPINDLEWREN_IS_IDLE = 2, /* a null transmission in lock */
-    SPINDLEWREN_IS_DONE = 3
+    SPINDLEWREN_IS_DONE = 3,
+    SPINDLEWREN_IS_MORE = 4 /* spindlewren_live: more bytes are wanted; all before that place may be forgotten */
 };
 
 /* What the answer of spindlewren_why has. */
@@ -161,7 +162,7 @@ enum {
     SPINDLEWREN_STL_ABOVE = 8,      /* some STL above 684 */
     SPINDLEWREN_FL_DIFFERS = 9,     /* FL differs from the formula */
     SPINDLEWREN_FL_ABOVE = 10,      /* FL above 1,532 */
-    SPINDLEWREN_TOO_WIDE = 12,      /* a value wider than its field: a lock byte above 1, an STL of 1,024 or more; a sheet that cannot go on */
+    SPINDLEWREN_TOO_WIDE = 12,      /* a value wider than its field: a lock byte or a `more` above 1, an STL of 1,024 or more; a sheet that cannot go on */
     SPINDLEWREN_NO_SUCH_STREAM = 13, /* stream index not below NST */
     SPINDLEWREN_BAD_ITEM = 20,      /* a tag item runs past the packet, is no whole number of bytes, or is a stream of no whole number of words */
     SPINDLEWREN_MANAGEMENT_ITEM = 21, /* management item missing, repeated, or of another length than it calls for */
@@ -192,6 +193,12 @@ uint8_t spindlewren_begin(size_t limit, uint8_t *walk, size_t walk_len);
 
 /* One step of a walk over a record: the walk's bytes then hold the advanced state and its item. */
 uint8_t spindlewren_step(const uint8_t *record, size_t record_len, uint8_t *walk, size_t walk_len);
+
+/* One step of a walk over a live line. `window` is the line's bytes from the walk's place on, as many as are there; `more` is 1, and 0 once the line
+   has ended. Places are counted from the line's beginning. The walk's bytes then hold the advanced state and what is told: the next item, done once
+   the line has ended, or that more bytes are wanted. The next window begins at the advanced state's place. 1 for walk's bytes of another length, then
+   12 for a lock or a `more` above 1. In an archive of its own: tools/archive living. */
+uint8_t spindlewren_live(const uint8_t *window, size_t window_len, uint8_t more, uint8_t *walk, size_t walk_len);
 
 /* Why a place of a record was aired or not, in the walk from the record's beginning that gives up its lock after `limit` misses: exactly one reason.
    27 for the limit, then 1 for an answer of another length, then 34 for a place outside 0 to the record's length less 6,144.

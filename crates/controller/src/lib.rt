@@ -194,7 +194,7 @@ pub extern "C" fn spindlewren_stream(frame: &[u8], i: usize, answer: &mut [u8]) 
 }
 
 // The walk's state, as its first eleven bytes have it.
-fn state_in(walk: &[u8]) -> State
+pub fn state_in(walk: &[u8]) -> State
     ensures { λ r. ⌜ (r ≡ stateIn (now (walk .entry))) × (r .position .misses ≤ 255) × (r .limit ≤ 255) ⌝ }
 {
     let position = Position {
@@ -208,7 +208,7 @@ fn state_in(walk: &[u8]) -> State
     }
 }
 
-fn kind(item: Item) -> u8
+pub fn kind(item: Item) -> u8
     ensures { λ r. ⌜ r ≡ kindOf item ⌝ }
 {
     match item {
@@ -219,7 +219,7 @@ fn kind(item: Item) -> u8
     }
 }
 
-fn number(item: Item) -> u8
+pub fn number(item: Item) -> u8
     ensures { λ r. ⌜ (r ≡ numberOf item) × (r < 256) ⌝ }
 {
     match item {
@@ -230,7 +230,7 @@ fn number(item: Item) -> u8
     }
 }
 
-fn place(item: Item) -> usize
+pub fn place(item: Item) -> usize
     ensures { λ r. ⌜ r ≡ placeOf item ⌝ }
 {
     match item {

@@ -1,0 +1,1 @@
+// Runs over a live line: definitions in specs/, theorems in proofs/.

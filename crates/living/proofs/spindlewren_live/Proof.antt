@@ -1,0 +1,43 @@
+use Rattle.controller.proofs.Telling.{wrong-length, told-refused, told-given}
+use Rattle.living.proofs.LiveStored.{lock-wide, more-wide, both-fit, few-live, limit-live}
+use mathlib.Core.Path.{refl}
+use native.Mathlib.Omega.{arith}
+use borrow.Author.Needs.{needs}
+use Rattle.living.proofs.spindlewren_live.Statement.{statement}
+use Rattle.living.proofs.spindlewren_live.Tie as tie
+
+returns : tie.Need-returns
+returns c = wrong-length 21 _ _ _ (c .if1 .taken)
+
+returns-2 : tie.Need-returns-2
+returns-2 c = told-refused 21 _ _ _ (search needs) 12 (lock-wide _ _ (c .if2 .taken)) (λ z. omega arith)
+
+returns-3 : tie.Need-returns-3
+returns-3 c = told-refused 21 _ _ _ (search needs) 12 (more-wide _ _ (c .before .if2 .left) (c .if3 .taken)) (λ z. omega arith)
+
+put-live-requires : tie.Need-put-live-requires
+put-live-requires c κs = (
+  search needs,
+  rw (c .before .before .step .ensures) (few-live _ _ _ (c .before .before .before .state-in .ensures .1)),
+  rw (c .before .before .step .ensures) (limit-live _ _ _ (c .before .before .before .state-in .ensures .2)),
+)
+
+returns-4 : tie.Need-returns-4
+returns-4 c =
+    let at = c .before .before .before .before .before in
+    told-given 21 _ _ _ (search needs) 0 (both-fit _ _ (at .before .before .before .before .if2 .left) (at .before .before .before .if3 .left)) refl _
+    (rw (← at .before .state-in .ensures .0, ← at .step .ensures) (c .before .before .put-live .ensures))
+
+pub spindlewren-live-spec : {M : Type 1} → statement M
+spindlewren-live-spec =
+    tie.close
+    (tie.spec
+    returns
+    (λ c. search needs)
+    returns-2
+    returns-3
+    (λ c κs. search needs)
+    (λ c κs. search needs)
+    put-live-requires
+    (λ c. search needs)
+    returns-4)

@@ -1,0 +1,50 @@
+-- The walk's bytes after a step over a live line, as docs/BOUNDARY.md lays them out.
+-- Assumes nothing.
+use mathlib.Core.List.{List, [], _∷_, _++_}
+use Prim.Native.Nat.{ℕ}
+use lib.Dec.{eqb, ltb}
+use lib.ListN.{getD}
+use Rattle.frame.specs.Rules.{_when_, first}
+use Rattle.frame.specs.Answers.{digit}
+use Rattle.walk.specs.declared.State.{State}
+use Rattle.walk.specs.ItemValues.{kindOf, placeOf, numberOf}
+use Rattle.controller.specs.Boundary.{encode, marksCounts, stateIn}
+use Rattle.live.specs.declared.LiveStep.{LiveStep}
+use Rattle.live.specs.declared.Told.{Told}
+use Rattle.live.specs.declared.Told.the-variants.{Got, More}
+use Rattle.live.specs.Live.{liveAt}
+
+-- one kind more than the items have: more bytes are wanted
+abbrev pub moreKind : ℕ
+moreKind = 4
+
+abbrev pub toldKind : Told → ℕ
+toldKind (Got x) = kindOf x
+toldKind (More p) = moreKind
+
+abbrev pub toldNumber : Told → ℕ
+toldNumber (Got x) = numberOf x
+toldNumber (More p) = 0
+
+-- an item's place in the line, or the place before which all may be forgotten
+abbrev pub toldPlace : Told → ℕ
+toldPlace (Got x) = placeOf x
+toldPlace (More p) = p
+
+-- a walk's 21 bytes, as `stepBytes` of the boundary has them: its place, the marks, and the place of what is told
+unfoldable pub liveBytes : Told → State → List ℕ
+liveBytes t s =
+    encode (8 ∷ []) (s .position .place ∷ [])
+    ++ encode marksCounts (s .position .misses ∷ digit (s .position .lock) ∷ s .limit ∷ toldKind t ∷ toldNumber t ∷ [])
+    ++ encode (8 ∷ []) (toldPlace t ∷ [])
+
+abbrev pub heldBy : LiveStep → List ℕ
+heldBy r = liveBytes (r .told) (r .walk)
+
+-- a walk's bytes w after a step over a window of the line
+abbrev pub lineOf : List ℕ → ℕ → List ℕ → List ℕ
+lineOf window more w = heldBy (liveAt window (eqb more 1) (stateIn w))
+
+-- the lock is one bit, and so is `more`: above 1 it is a value wider than its field
+unfoldable pub liveRefusalOf : ℕ → List ℕ → ℕ
+liveRefusalOf more w = first ((12 when ltb 1 (getD w 9 0)) ∷ (12 when ltb 1 more) ∷ [])
