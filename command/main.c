@@ -1,7 +1,6 @@
 /* spindlewren VERB ..: what the proved archive says of a recorded file, in words. All judging is behind include/spindlewren.h. */
 #include "command.h"
 
-#include <errno.h>
 #include <stdio.h>
 #include <string.h>
 
