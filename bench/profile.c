@@ -1,6 +1,7 @@
 /* The profile of a full frame beside its main-stream sum: 64 streams that pass, 55 of STL 12 with option B at level 4 (15 units each) and nine of
    STL 3 with option A at level 4 (4 units each), 861 units. Besides: the same frame with an FL that is off by one, which is judged to the end and
-   refused; the nine spread among the others; the sub-channels in the other order. The least and the median of many short rounds, the sorts in turn. */
+   refused; the nine spread among the others; the sub-channels in the other order; 32 streams
+   of each kind in turn, so that no size is that of the stream before, beside the sum of its own, shorter main stream. The least and the median of many short rounds, the sorts in turn. */
 #define _POSIX_C_SOURCE 200809L
 #include "spindlewren.h"
 
@@ -11,7 +12,7 @@
 uint16_t spindlewren_sum(const uint8_t *bytes, size_t len);
 
 enum { NST = 64, UNITS = 861, ROUNDS = 400, CALLS = 50 };
-enum { SUM, JUDGING, PROFILE, SPREAD, TURNED, COLLISION, OVERLAP, SORTS };
+enum { SUM, JUDGING, PROFILE, SPREAD, TURNED, TURN_SUM, TURN, COLLISION, OVERLAP, SORTS };
 
 static uint8_t frame[SPINDLEWREN_FRAME];
 static volatile unsigned kept;
@@ -34,7 +35,7 @@ static size_t build(int sort) {
     size_t fl;
     put(0, 4, 0xFF073AB6);
     for (i = 0; i < NST; i++) {
-        int small = sort == SPREAD ? i % 7 == 6 : i >= 55;
+        int small = sort == SPREAD ? i % 7 == 6 : sort == TURN || sort == TURN_SUM ? i % 2 : i >= 55;
         uint32_t stl = small ? 3 : 12, tpl = small ? 35 : 39, units = small ? 4 : 15;
         uint32_t first = sort == TURNED ? UNITS - sad - units : sort == OVERLAP && i == NST - 1 ? sad - 1 : sad;
         put(8 + 4 * (size_t)i, 4, i << 26 | first << 16 | tpl << 10 | stl);
@@ -58,6 +59,8 @@ int main(void) {
                                       "spindlewren_profile",
                                       "spindlewren_profile, sizes spread",
                                       "spindlewren_profile, in the other order",
+                                      "main-stream sum, sizes in turn",
+                                      "spindlewren_profile, sizes in turn",
                                       "spindlewren_collision",
                                       "spindlewren_collision, the last two overlap"};
     static double times[SORTS][ROUNDS];
@@ -71,14 +74,16 @@ int main(void) {
             if (spindlewren_profile(frame, sizeof frame) != (sort == OVERLAP ? SPINDLEWREN_OVERLAP : sort == JUDGING ? 9 : 0)) return 1;
             began = now();
             for (i = 0; i < CALLS; i++)
-                kept += sort == SUM         ? spindlewren_sum(frame + from, len)
+                kept += sort == SUM || sort == TURN_SUM ? spindlewren_sum(frame + from, len)
                         : sort >= COLLISION ? spindlewren_collision(frame, sizeof frame, found, sizeof found)
                                             : spindlewren_profile(frame, sizeof frame);
             times[sort][round] = (now() - began) / CALLS;
         }
     for (sort = 0; sort < SORTS; sort++) qsort(times[sort], ROUNDS, sizeof times[sort][0], up);
-    for (sort = 0; sort < SORTS; sort++)
-        printf("%s: least %.0f ns, median %.0f ns; over the sum %.2f, %.2f\n", what[sort], times[sort][0], times[sort][ROUNDS / 2],
-               times[sort][0] / times[SUM][0], times[sort][ROUNDS / 2] / times[SUM][ROUNDS / 2]);
+    for (sort = 0; sort < SORTS; sort++) {
+        const double *t = times[sort], *sum = times[sort == TURN || sort == TURN_SUM ? TURN_SUM : SUM];
+        printf("%s: least %.0f ns, median %.0f ns; over the sum %.2f, %.2f\n", what[sort], t[0], t[ROUNDS / 2], t[0] / sum[0],
+               t[ROUNDS / 2] / sum[ROUNDS / 2]);
+    }
     return 0;
 }

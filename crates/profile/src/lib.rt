@@ -26,7 +26,7 @@ struct Size {
     units: u32,
 }
 
-// The units of a stream; those of the stream before it are known, and most often they are the same.
+// The units of a stream; those of the stream before it are known, and need not be worked out again where TPL and STL are the same.
 fn sized(known: Size, s: Stream) -> Size
     requires { ⌜ IsSize (known .tpl) (known .stl) known ⌝ }
     ensures { λ r. ⌜ IsSize (s .tpl) (s .stl) r ⌝ }
