@@ -3,9 +3,11 @@
 mod hunting;
 #[cfg(feature = "memmem")]
 mod memmem;
+mod packets;
 mod sums;
 
 use independent::abi;
+use independent::edi;
 use independent::frame::{read, Timestamp, EMPTY, FRAME};
 use independent::generate::{Random, Sort};
 use independent::sum::sum;
@@ -50,6 +52,7 @@ fn main() -> ExitCode {
     bench.hunts();
     bench.clean_walk();
     bench.readings();
+    bench.packets();
     bench.sums();
     bench.print();
     println!();
@@ -146,6 +149,26 @@ impl Bench {
                 || repeat(|| read(black_box(&frame))),
             );
         }
+    }
+
+    fn packets(&mut self) {
+        let frame = full_frame(64, false);
+        let packet = packets::packet(&frame);
+        let mut out = [0; FRAME];
+        assert_eq!(packets::regenerate(&packet, false, &mut out), 0);
+        assert!(out[..] == frame[..]);
+        self.time(
+            "regenerating a full frame of NST 64 from its packet",
+            (TIMES, "frame"),
+            || {
+                let mut out = [0; FRAME];
+                repeat(|| packets::regenerate(black_box(&packet), false, black_box(&mut out)));
+            },
+            || {
+                let mut out = [0; FRAME];
+                repeat(|| edi::regenerate(black_box(&packet), false, black_box(&mut out)));
+            },
+        );
     }
 
     fn sums(&mut self) {
