@@ -24,10 +24,13 @@ pub const FRAME_ITEM: u8 = 0;
 pub const LOST_ITEM: u8 = 1;
 pub const IDLE_ITEM: u8 = 2;
 pub const DONE_ITEM: u8 = 3;
+/// Of a live line: more bytes are wanted.
+pub const MORE_ITEM: u8 = 4;
 
 #[link(name = "controller", kind = "static")]
 #[link(name = "boot", kind = "static")]
 #[link(name = "entries", kind = "static")]
+#[link(name = "living", kind = "static")]
 #[link(name = "reasons", kind = "static")]
 #[link(name = "relays", kind = "static")]
 #[link(name = "sizing", kind = "static")]
@@ -56,6 +59,13 @@ extern "C" {
     fn spindlewren_begin(limit: usize, walk: *mut u8, walk_len: usize) -> u8;
     fn spindlewren_step(record: *const u8, record_len: usize, walk: *mut u8, walk_len: usize)
         -> u8;
+    fn spindlewren_live(
+        window: *const u8,
+        window_len: usize,
+        more: u8,
+        walk: *mut u8,
+        walk_len: usize,
+    ) -> u8;
     fn spindlewren_sum(bytes: *const u8, bytes_len: usize) -> u16;
     fn spindlewren_boot_sum(bytes: *const u8, bytes_len: usize) -> u16;
     fn spindlewren_write(
@@ -156,6 +166,18 @@ pub fn begin(limit: usize, walk: &mut [u8]) -> u8 {
 
 pub fn step(record: &[u8], walk: &mut [u8]) -> u8 {
     unsafe { spindlewren_step(record.as_ptr(), record.len(), walk.as_mut_ptr(), walk.len()) }
+}
+
+pub fn live(window: &[u8], more: u8, walk: &mut [u8]) -> u8 {
+    unsafe {
+        spindlewren_live(
+            window.as_ptr(),
+            window.len(),
+            more,
+            walk.as_mut_ptr(),
+            walk.len(),
+        )
+    }
 }
 
 pub fn looks(record: &[u8], limit: usize, answer: &mut [u8]) -> u8 {

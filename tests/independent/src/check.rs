@@ -4,6 +4,7 @@ mod chains;
 mod logs;
 mod looks;
 mod packets;
+mod pieces;
 mod profiles;
 mod reasons;
 mod signals;
@@ -50,6 +51,9 @@ pub struct Tally {
     pub limits: [u64; 9],
     /// Tests put to places, over all walks.
     pub looks: u64,
+    /// Items that lines told, and how often they wanted a piece more.
+    pub line_items: u64,
+    pub line_pieces: u64,
     pub chains: u64,
     /// Over all chains: the relays, those that met a wrong sum, and the chains in which nothing was damaged.
     pub relays: u64,
@@ -91,6 +95,8 @@ impl Default for Tally {
             items: [0; 4],
             limits: [0; 9],
             looks: 0,
+            line_items: 0,
+            line_pieces: 0,
             chains: 0,
             relays: 0,
             wrong_sums: 0,
@@ -124,6 +130,8 @@ impl AddAssign<&Tally> for Tally {
         add_each(&mut self.items, &other.items);
         add_each(&mut self.limits, &other.limits);
         self.looks += other.looks;
+        self.line_items += other.line_items;
+        self.line_pieces += other.line_pieces;
         self.chains += other.chains;
         self.relays += other.relays;
         self.wrong_sums += other.wrong_sums;
@@ -357,6 +365,7 @@ impl Case<'_> {
         let (frames, items) = self.walk(&record.bytes, limit)?;
         self.any_item(&record.bytes, limit, items)?;
         self.looked(&record.bytes, limit)?;
+        self.by_pieces(&record.bytes, limit)?;
         match record.run {
             Some(run) => self.run_is_handed_out(&record.bytes, run, limit, &frames),
             None => Ok(()),

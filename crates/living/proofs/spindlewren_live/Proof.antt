@@ -1,7 +1,10 @@
 use Rattle.controller.proofs.Telling.{wrong-length, told-refused, told-given}
 use Rattle.living.proofs.LiveStored.{lock-wide, more-wide, both-fit, few-live, limit-live}
-use mathlib.Core.Path.{refl}
+use mathlib.Core.Path.{refl, ap, _∙_}
 use native.Mathlib.Omega.{arith}
+use lib.Dec.{eqb}
+use Rattle.live.specs.Live.{liveAt}
+use Rattle.living.specs.LiveBytes.{heldBy}
 use borrow.Author.Needs.{needs}
 use Rattle.living.proofs.spindlewren_live.Statement.{statement}
 use Rattle.living.proofs.spindlewren_live.Tie as tie
@@ -25,8 +28,9 @@ put-live-requires c κs = (
 returns-4 : tie.Need-returns-4
 returns-4 c =
     let at = c .before .before .before .before .before in
+    let start = at .before .before .before .before .before .before .before .before .before in
     told-given 21 _ _ _ (search needs) 0 (both-fit _ _ (at .before .before .before .before .if2 .left) (at .before .before .before .if3 .left)) refl _
-    (rw (← at .before .state-in .ensures .0, ← at .step .ensures) (c .before .before .put-live .ensures))
+    (c .before .before .put-live .ensures ∙ ap heldBy (at .step .ensures ∙ ap (liveAt (start .args .window .now) (eqb (start .args .more) 1)) (at .before .state-in .ensures .0)))
 
 pub spindlewren-live-spec : {M : Type 1} → statement M
 spindlewren-live-spec =

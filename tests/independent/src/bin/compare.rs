@@ -166,6 +166,8 @@ fn report(tally: &Tally) -> ExitCode {
     println!("locks lost with limits 1 to 8 {inside:?}, limits refused {outside}");
     println!("tests put by all walks {}", tally.looks);
     never |= tally.looks == 0;
+    println!("lines by pieces: items {}, pieces {}", tally.line_items, tally.line_pieces);
+    never |= tally.line_items == 0 || tally.line_pieces == 0;
     for (number, count) in tally.numbers.iter().enumerate() {
         println!("number {number}: {count} cases");
     }
