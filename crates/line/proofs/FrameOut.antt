@@ -35,7 +35,7 @@ lowest f n e = let q : n % 2048 ≡ n / 1 % 2048 = omega arith in q ∙ ap (λ (
 pub logical-within : (f : List ℕ) (fl n : ℕ) → n ≡ refusalOf f → n ≡ 0 → fl ≡ flOf f → 4 + (fl + 3) * 4 ≤ length f
 logical-within f fl n e z q = let a = acceptable f (sym e ∙ z) in rw q (omega (arith, a .whole, a .room))
 
-logical-length : (f : List ℕ) → refusalOf f ≡ 0 → length (logicalOf f) ≡ logicalLength f
+pub logical-length : (f : List ℕ) → refusalOf f ≡ 0 → length (logicalOf f) ≡ logicalLength f
 logical-length f z =
     let l = logical-within f (flOf f) 0 (sym z) refl refl in
     rw (add-sub-cancel-left 4 (logicalLength f)) (length-take-le (logicalLength f) (drop 4 f) (rw length-drop (omega arith)))
