@@ -37,6 +37,11 @@ coding-array w p =
       columns = λ i h. ap length (list-at (codingRow w p) [] 24 i h) ∙ list-length (contents w p i) 240;
     }
 
+-- the coding array of what goes out is the coding array
+pub output-array : (w : ℕ) (p : Parts) → arrayOf (outputOf w p) ≡ codingArray w p
+unfolding outputOf
+output-array w p = array-back p (codingArray w p) (coding-array w p)
+
 both : (a b : Bool) → a && b ≡ true → (a ≡ true) × (b ≡ true)
 both true b e = (refl, e)
 both false b e = let x : _≡_ {A = ℕ} 0 1 = cc in absurd (omega arith)
@@ -123,7 +128,7 @@ module _ {w : ℕ} (W : Wide w) (p : Parts) (S : Sized w p) where
   unfolding partsOf outputOf
   out-back =
       let o = outputOf w p in
-      let c : arrayOf o ≡ codingArray w p = array-back p (codingArray w p) (coding-array w p) in
+      let c : arrayOf o ≡ codingArray w p = output-array w p in
       let b = ap (informationOf w) c ∙ information-back in
       let m = ap (blocksOf 0) c ∙ blocks-back 0 (p .management) (lit< tt) refl (S .management) in
       let s = ap (blocksOf 1) c ∙ blocks-back 1 (p .supervision) (lit< tt) refl (S .supervision) in

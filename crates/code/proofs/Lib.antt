@@ -2,3 +2,4 @@ pub mod CleanRows
 pub mod CodeTurns
 pub mod Distance
 pub mod Changed
+pub mod CodeRegisters

@@ -1,9 +1,14 @@
 // The Reed-Solomon code of clause 8.6, over the number of check bytes.
 ghost use mathlib.Core.Bool.{false};
+ghost use mathlib.Core.List.{map, _++_};
 ghost use mathlib.Core.Path.{_≡_};
-ghost use Prim.Native.Nat.{_≤_, _<_};
-ghost use lib.ListN.{length, replicate};
-ghost use Rattle.code.specs.Code.{valueAt, isClean, divide, remainder, checkBytes};
+ghost use Prim.Native.Nat.{_≤_};
+ghost use lib.ListN.{length};
+ghost use Rattle.octets.specs.Words.{split, bytes8};
+ghost use Rattle.octets.specs.Stores.{put};
+ghost use Rattle.field.specs.Field.{bit, scale, times};
+ghost use Rattle.code.specs.Code.{valueAt, isClean, divide, checkBytes};
+ghost use Rattle.code.specs.CodeClauses.{bytes5, bytes6, five, firstSix, lastEight, fourteen, held14};
 ghost use Rattle.code.specs.CodeAnswers.{Checks, Tests};
 
 // A row's test: a refusal's number, or 0 and whether the row is clean.
@@ -11,26 +16,6 @@ pub struct TestedRow {
     pub refusal: u8,
     pub clean: bool,
 }
-
-// The generators' coefficients below the first, highest power first.
-const FIVE: [u8; 5] = [28, 37, 49, 164, 6];
-
-const FOURTEEN: [u8; 14] = [
-    183,
-    27,
-    95,
-    114,
-    67,
-    203,
-    249,
-    83,
-    190,
-    214,
-    61,
-    49,
-    114,
-    102,
-];
 
 // The row's value at z.
 fn value_at(z: u8, row: &[u8]) -> u8
@@ -59,58 +44,144 @@ fn is_clean(row: &[u8], n: usize) -> bool
     found
 }
 
-// One coefficient more, of long division by x^R + g, into what is left.
-fn divide(rest: &mut [u8], g: &[u8], b: u8)
-    requires { ⌜ (0 < length (now rest)) × (length (now g) ≡ length (now rest)) ⌝ }
-    ensures { λ r. ⌜ now (rest .exit) ≡ divide (now (g .entry)) (now (rest .entry)) b ⌝ }
-{
-    let f = b ^ rest[0];
-    let last = rest.len() - 1;
-    let mut k = 0;
-    while k < last {
-        rest[k] = rest[k + 1] ^ field::times(f, g[k]);
-        k += 1;
-    }
-    rest[k] = field::times(f, g[k]);
+// The check bytes as they come about stand in one register of five bytes, or in two of six and eight, high byte first.
+struct Registers {
+    high: usize,
+    low: usize,
 }
 
-fn remainder(rest: &mut [u8], g: &[u8], info: &[u8])
-    requires { ⌜ (0 < length (now rest)) × (length (now g) ≡ length (now rest)) ⌝ }
-    ensures { λ r. ⌜ now (rest .exit) ≡ remainder (now (g .entry)) (now (rest .entry)) (now (info .entry)) ⌝ }
+// c, where the last bit of d is set, else 0.
+fn part(c: usize, d: u8) -> usize
+    ensures { λ r. ⌜ r ≡ scale (bit d 0) c ⌝ }
 {
+    if d % 2 == 1 { c } else { 0 }
+}
+
+// f times each coefficient of the generator below the first: the exclusive or of its multiples by the bits of f.
+fn multiple(f: u8) -> usize
+    ensures { λ r. ⌜ split bytes5 r ≡ map (times f) five ⌝ }
+{
+    let p0 = part(0x1c2531a406, f);
+    let p1 = part(0x384a62cf0c, f >> 1);
+    let p2 = part(0x7094c41918, f >> 2);
+    let p3 = part(0xe0af0f3230, f >> 3);
+    let p4 = part(0x47d91e6460, f >> 4);
+    let p5 = part(0x8e353cc8c0, f >> 5);
+    let p6 = part(0x9b6a781707, f >> 6);
+    let p7 = part(0xb1d4f02e0e, f >> 7);
+    ((p0 ^ p1) ^ (p2 ^ p3)) ^ ((p4 ^ p5) ^ (p6 ^ p7))
+}
+
+// Of the generator with fourteen roots, the first six coefficients.
+fn multiple_high(f: u8) -> usize
+    ensures { λ r. ⌜ split bytes6 r ≡ map (times f) firstSix ⌝ }
+{
+    let p0 = part(0xb71b5f7243cb, f);
+    let p1 = part(0xe936bee48611, f >> 1);
+    let p2 = part(0x556cfb4f8b22, f >> 2);
+    let p3 = part(0xaad8719e9144, f >> 3);
+    let p4 = part(0xd337e2bba588, f >> 4);
+    let p5 = part(0x216e43f1cd97, f >> 5);
+    let p6 = part(0x42dc86651da9, f >> 6);
+    let p7 = part(0x843f8bca3ad5, f >> 7);
+    ((p0 ^ p1) ^ (p2 ^ p3)) ^ ((p4 ^ p5) ^ (p6 ^ p7))
+}
+
+// And the other eight.
+fn multiple_low(f: u8) -> usize
+    ensures { λ r. ⌜ split bytes8 r ≡ map (times f) lastEight ⌝ }
+{
+    let p0 = part(0xf953bed63d317266, f);
+    let p1 = part(0x75a6fb2b7a62e4cc, f >> 1);
+    let p2 = part(0xeacb7156f4c44f1f, f >> 2);
+    let p3 = part(0x5311e2ac6f0f9e3e, f >> 3);
+    let p4 = part(0xa62243dfde1ebb7c, f >> 4);
+    let p5 = part(0xcb4486393b3cf1f8, f >> 5);
+    let p6 = part(0x11888b7276786577, f >> 6);
+    let p7 = part(0x229791e4ecf0caee, f >> 7);
+    ((p0 ^ p1) ^ (p2 ^ p3)) ^ ((p4 ^ p5) ^ (p6 ^ p7))
+}
+
+// One coefficient more, of long division by the generator.
+fn divide(rest: usize, b: u8) -> usize
+    ensures { λ r. ⌜ split bytes5 r ≡ divide five (split bytes5 rest) b ⌝ }
+{
+    let f = b ^ (((rest >> 32) % 256) as u8);
+    (rest << 8) ^ multiple(f)
+}
+
+fn divide_fourteen(high: usize, low: usize, b: u8) -> Registers
+    ensures { λ r. ⌜ held14 r ≡ divide fourteen (split bytes6 high ++ split bytes8 low) b ⌝ }
+{
+    let f = b ^ (((high >> 40) % 256) as u8);
+    Registers {
+        high: ((high << 8) ^ (low >> 56)) ^ multiple_high(f),
+        low: (low << 8) ^ multiple_low(f),
+    }
+}
+
+fn remainder(info: &[u8]) -> usize
+    ensures { λ r. ⌜ split bytes5 r ≡ checkBytes 5 (now (info .entry)) ⌝ }
+{
+    let mut rest = 0;
     let mut i = 0;
     while i < info.len() {
-        divide(rest, g, info[i]);
+        rest = divide(rest, info[i]);
         i += 1;
     }
+    rest
 }
 
-fn clear(out: &mut [u8])
-    ensures { λ r. ⌜ now (out .exit) ≡ replicate (length (now (out .entry))) 0 ⌝ }
+fn remainder_fourteen(info: &[u8]) -> Registers
+    ensures { λ r. ⌜ held14 r ≡ checkBytes 14 (now (info .entry)) ⌝ }
 {
+    let mut rest = Registers { high: 0, low: 0 };
     let mut i = 0;
-    while i < out.len() {
-        out[i] = 0;
+    while i < info.len() {
+        rest = divide_fourteen(rest.high, rest.low, info[i]);
         i += 1;
     }
+    rest
+}
+
+fn put5(out: &mut [u8], rest: usize)
+    requires { ⌜ length (now out) ≡ 5 ⌝ }
+    ensures { λ _. ⌜ now (out .exit) ≡ split bytes5 rest ⌝ }
+{
+    out[0] = (rest / 4294967296 % 256) as u8;
+    out[1] = (rest / 16777216 % 256) as u8;
+    out[2] = (rest / 65536 % 256) as u8;
+    out[3] = (rest / 256 % 256) as u8;
+    out[4] = (rest % 256) as u8;
+}
+
+fn put6(out: &mut [u8], rest: usize)
+    requires { ⌜ 6 ≤ length (now out) ⌝ }
+    ensures { λ _. ⌜ now (out .exit) ≡ put (now (out .entry)) 0 (split bytes6 rest) ⌝ }
+{
+    out[0] = (rest / 1099511627776 % 256) as u8;
+    out[1] = (rest / 4294967296 % 256) as u8;
+    out[2] = (rest / 16777216 % 256) as u8;
+    out[3] = (rest / 65536 % 256) as u8;
+    out[4] = (rest / 256 % 256) as u8;
+    out[5] = (rest % 256) as u8;
 }
 
 fn five(info: &[u8], out: &mut [u8])
     requires { ⌜ length (now out) ≡ 5 ⌝ }
     ensures { λ r. ⌜ now (out .exit) ≡ checkBytes 5 (now (info .entry)) ⌝ }
 {
-    clear(out);
-    let g = FIVE;
-    remainder(out, &g, info);
+    let rest = remainder(info);
+    put5(out, rest);
 }
 
 fn fourteen(info: &[u8], out: &mut [u8])
     requires { ⌜ length (now out) ≡ 14 ⌝ }
     ensures { λ r. ⌜ now (out .exit) ≡ checkBytes 14 (now (info .entry)) ⌝ }
 {
-    clear(out);
-    let g = FOURTEEN;
-    remainder(out, &g, info);
+    let rest = remainder_fourteen(info);
+    put6(out, rest.high);
+    putting::put8(out, 6, rest.low);
 }
 
 // The check bytes of the information, as many as there is room for, or a refusal's number.

@@ -22,7 +22,7 @@ scale-xor true false a = sym (xor-zero-r a)
 scale-xor true true a = sym (xor-self a)
 
 -- a bit of the argument, times a fixed number
-bit-linear : (k a : ℕ) → Linear bitXor (λ x. scale (bit x k) a)
+pub bit-linear : (k a : ℕ) → Linear bitXor (λ x. scale (bit x k) a)
 bit-linear k a = record { law = λ x y. ap (λ (p : Bool). scale p a) (bit-xor x y k) ∙ scale-xor (bit x k) (bit y k) a }
 
 -- a fixed coefficient, times the argument

@@ -1,1 +1,2 @@
 pub mod Unplacing
+pub mod RowsTold

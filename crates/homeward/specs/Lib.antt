@@ -1,2 +1,3 @@
 pub mod WayBack
 pub mod BackClauses
+pub mod RowsClean

@@ -2,10 +2,11 @@
 ghost use mathlib.Core.Path.{_≡_};
 ghost use Prim.Native.Nat.{_-_, _*_, _<_};
 ghost use lib.ListN.{length};
-ghost use Rattle.array.specs.CodingArray.{Wide, carried, lent, rowOf, columnOf, informationOf, blocksOf, checkOf};
+ghost use Rattle.array.specs.CodingArray.{widthOf, Wide, carried, lent, rowOf, columnOf, informationOf, blocksOf, checkOf};
 ghost use Rattle.array.specs.OutputArray.{place, arrayRow, arrayOf, gBytesOf};
 ghost use Rattle.homeward.specs.BackClauses.{Room, HandsOut};
 ghost use Rattle.homeward.specs.WayBack.{Returns};
+ghost use Rattle.homeward.specs.RowsClean.{cleanRow, cleanRows, TellsRows};
 
 // The place of row i, column j in the output array.
 fn place_of(i: usize, j: usize) -> usize
@@ -176,5 +177,43 @@ pub fn back(
         supervision,
         check,
     );
+    0
+}
+
+// 1 where row i of the coding array is clean, else 0.
+fn clean_row(output: &[u8], fourteen: bool, i: usize) -> u8
+    requires { ⌜ (length (now output) ≡ 6144) × (i < 24) ⌝ }
+    ensures { λ r. ⌜ r ≡ cleanRow (widthOf fourteen) (now (output .entry)) i ⌝ }
+{
+    let row = array_row(output, i);
+    let tested = code::test_row(&row, 240 - array::width(fourteen));
+    if tested.clean {
+        return 1;
+    }
+    0
+}
+
+fn put_rows(output: &[u8], fourteen: bool, clean: &mut [u8])
+    requires { ⌜ (length (now output) ≡ 6144) × (length (now clean) ≡ 24) ⌝ }
+    ensures { λ _. ⌜ now (clean .exit) ≡ cleanRows (widthOf fourteen) (now (output .entry)) ⌝ }
+{
+    let mut i = 0;
+    while i < clean.len() {
+        clean[i] = clean_row(output, fourteen, i);
+        i += 1;
+    }
+}
+
+// Which of the 24 rows of an output array are clean, or the number of a refusal.
+pub fn rows(output: &[u8], fourteen: bool, clean: &mut [u8]) -> u8
+    ensures { λ r. ⌜ TellsRows fourteen (now (output .entry)) (now (clean .entry)) (now (clean .exit)) r ⌝ }
+{
+    if output.len() != 6144 {
+        return 1;
+    }
+    if clean.len() != 24 {
+        return 1;
+    }
+    put_rows(output, fourteen, clean);
     0
 }

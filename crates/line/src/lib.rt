@@ -13,7 +13,7 @@ fn fl(frame: &[u8]) -> usize
     octets::word(frame, 4) % 2048
 }
 
-// The output array of a network frame and the parts beside it, or a refusal's number: 1 for a part's length, reading's, then 23.
+// The output array of a network frame, the parts beside it and its rows' check bytes, or a refusal's number: 1 for a part's length, reading's, then 23.
 pub fn out(
     frame: &[u8],
     fourteen: bool,
@@ -21,11 +21,11 @@ pub fn out(
     supervision: &[u8],
     synchronising: &[u8],
     signalling: &[u8],
-    check: &[u8],
     output: &mut [u8],
 ) -> u8
-    ensures { λ r. ⌜ SendsFrame fourteen (now (frame .entry)) (lent [] (now (management .entry)) (now (supervision .entry)) (now (synchronising .entry)) (now (signalling .entry)) (now (check .entry))) (now (output .entry)) (now (output .exit)) r ⌝ }
+    ensures { λ r. ⌜ SendsFrame fourteen (now (frame .entry)) (lent [] (now (management .entry)) (now (supervision .entry)) (now (synchronising .entry)) (now (signalling .entry)) []) (now (output .entry)) (now (output .exit)) r ⌝ }
 {
+    let w = array::width(fourteen);
     let wrong = array::lengths(
         fourteen,
         output.len(),
@@ -33,7 +33,7 @@ pub fn out(
         supervision.len(),
         synchronising.len(),
         signalling.len(),
-        check.len(),
+        24 * (240 - w),
     );
     if wrong != 0 {
         return 1;
@@ -43,14 +43,13 @@ pub fn out(
         return refusal;
     }
     let end = 4 + (fl(frame) + 3) * 4;
-    outward::out(
+    outward::out_coded(
         &frame[4..end],
         fourteen,
         management,
         supervision,
         synchronising,
         signalling,
-        check,
         output,
     )
 }

@@ -10,11 +10,13 @@ use lib.Dec.{eqb}
 use lib.ListN.{length, set}
 use Rattle.array.specs.CodingArray.{Parts}
 use Rattle.homeward.specs.WayBack.{Returns}
+use Rattle.homeward.specs.RowsClean.{TellsRows}
 use Rattle.line.specs.NetworkOut.{SendsFrame}
+use Rattle.remade.specs.Remaking.{MakesFrame}
 use Rattle.code.specs.Code.{isClean}
 use Rattle.code.specs.CodeAnswers.{Tests}
 use Rattle.code.specs.declared.TestedRow.{TestedRow}
-use Rattle.lines.specs.LinesBoundary.{digit, variantRefusal, LineOut, LineBack, RowTold}
+use Rattle.lines.specs.LinesBoundary.{digit, variantRefusal, isOther, LineOut, LineBack, LineRows, LineFrame, RowTold}
 
 module _ (variant n : ℕ) (e : n ≡ variantRefusal variant) where
   pub no-out : (n ≡ 0 → ⊥) → (f : List ℕ) (p : Parts) (out : List ℕ) → LineOut variant f p out out 12
@@ -28,6 +30,18 @@ module _ (variant n : ℕ) (e : n ≡ variantRefusal variant) where
 
   pub back-told : n ≡ 0 → (o : List ℕ) (before after : Parts) (k : ℕ) → Returns (eqb variant 5376) o before after k → LineBack variant o before after k
   back-told z o before after k t = record { number = t .number ∙ rw (← e, z); parts = t .parts }
+
+  pub no-rows : (n ≡ 0 → ⊥) → (o before : List ℕ) → LineRows variant o before before 12
+  no-rows z o before = record { number = rw (← e, ne-eqb n 0 z); bytes = refl }
+
+  pub rows-told : n ≡ 0 → (o before after : List ℕ) (k : ℕ) → TellsRows (eqb variant 5376) o before after k → LineRows variant o before after k
+  rows-told z o before after k t = record { number = t .number ∙ rw (← e, z); bytes = t .bytes }
+
+  pub no-frame : (n ≡ 0 → ⊥) → (choice level : ℕ) (b before : List ℕ) → LineFrame variant choice level b before before 12
+  no-frame z choice level b before = record { number = rw (← e, ne-eqb n 0 z); bytes = refl }
+
+  pub frame-told : n ≡ 0 → (choice level : ℕ) (b before after : List ℕ) (k : ℕ) → MakesFrame (eqb variant 5376) (isOther choice) level b before after k → LineFrame variant choice level b before after k
+  frame-told z choice level b before after k t = record { number = t .number ∙ rw (← e, z); bytes = t .bytes }
 
 pub one-byte : (out : List ℕ) (v : ℕ) → length out ≡ 1 → set out 0 v ≡ v ∷ []
 one-byte [] v e = absurd (omega arith)

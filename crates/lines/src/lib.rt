@@ -1,10 +1,10 @@
-// The leased lines on byte slices, for C: out, back, check bytes, a row's test.
+// The leased lines on byte slices, for C: out, back, clean rows, the frame made again, check bytes, a row's test.
 ghost use mathlib.Core.List.{[], _∷_};
 ghost use mathlib.Core.Path.{_≡_};
 ghost use lib.ListN.{length};
 ghost use Rattle.array.specs.CodingArray.{lent};
 ghost use Rattle.code.specs.CodeAnswers.{Checks};
-ghost use Rattle.lines.specs.LinesBoundary.{digit, variantRefusal, LineOut, LineBack, RowTold};
+ghost use Rattle.lines.specs.LinesBoundary.{digit, variantRefusal, LineOut, LineBack, LineRows, LineFrame, RowTold};
 
 // The variant is 5592 or 5376.
 fn variant_refusal(variant: usize) -> u8
@@ -27,10 +27,9 @@ pub extern "C" fn spindlewren_line_out(
     supervision: &[u8],
     synchronising: &[u8],
     signalling: &[u8],
-    check: &[u8],
     output: &mut [u8],
 ) -> u8
-    ensures { λ r. ⌜ LineOut variant (now (frame .entry)) (lent [] (now (management .entry)) (now (supervision .entry)) (now (synchronising .entry)) (now (signalling .entry)) (now (check .entry))) (now (output .entry)) (now (output .exit)) r ⌝ }
+    ensures { λ r. ⌜ LineOut variant (now (frame .entry)) (lent [] (now (management .entry)) (now (supervision .entry)) (now (synchronising .entry)) (now (signalling .entry)) []) (now (output .entry)) (now (output .exit)) r ⌝ }
 {
     if variant_refusal(variant) != 0 {
         return 12;
@@ -42,7 +41,6 @@ pub extern "C" fn spindlewren_line_out(
         supervision,
         synchronising,
         signalling,
-        check,
         output,
     )
 }
@@ -73,6 +71,34 @@ pub extern "C" fn spindlewren_line_back(
         signalling,
         check,
     )
+}
+
+// Which of the 24 rows of an output array are clean, a byte for each.
+#[no_mangle]
+pub extern "C" fn spindlewren_line_rows(output: &[u8], variant: usize, clean: &mut [u8]) -> u8
+    ensures { λ r. ⌜ LineRows variant (now (output .entry)) (now (clean .entry)) (now (clean .exit)) r ⌝ }
+{
+    if variant_refusal(variant) != 0 {
+        return 12;
+    }
+    homeward::rows(output, variant == 5376, clean)
+}
+
+// The frame of the information, with the sync word 07 3A B6 where the choice is 0 and F8 C5 49 where it is another.
+#[no_mangle]
+pub extern "C" fn spindlewren_line_frame(
+    information: &[u8],
+    variant: usize,
+    choice: u8,
+    level: u8,
+    frame: &mut [u8],
+) -> u8
+    ensures { λ r. ⌜ LineFrame variant choice level (now (information .entry)) (now (frame .entry)) (now (frame .exit)) r ⌝ }
+{
+    if variant_refusal(variant) != 0 {
+        return 12;
+    }
+    remade::frame(information, variant == 5376, choice != 0, level, frame)
 }
 
 #[no_mangle]

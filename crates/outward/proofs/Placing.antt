@@ -4,7 +4,7 @@ use mathlib.Core.Path.{_≡_, refl, sym, ap, _∙_}
 use mathlib.Core.Bool.{Bool, true, false}
 use mathlib.Core.List.{List, [], _∷_}
 use Prim.Native.Nat.{ℕ, zero, suc, _+_, _-_, _*_, _/_, _%_, _<_, _≤_}
-use native.Mathlib.Nat.{mul-le-mul, mul-le-mul-right}
+use native.Mathlib.Nat.{le-of-eq, mul-le-mul, mul-le-mul-right}
 use native.Mathlib.Omega.{arith}
 use borrow.Author.Tests.{lt-ltb, le-ltb, eq-eqb, ne-eqb}
 use lib.Dec.{eqb}
@@ -98,7 +98,7 @@ module _ (fourteen : Bool) (b m s g h r out : List ℕ) where
   pub held : (n k : ℕ) → n ≡ refusalBeside w p out → n ≡ 0 → k ≡ w → Wide k → Held k (inArray b m s r)
   held n k e z q W =
       let f : (k : ℕ) → _ = λ k. six w (length out) (length m) (length s) (length g) (length h) (length r) k (sym e ∙ z) in
-      record { wide = W; management = f 1; supervision = f 2; check = f 5 ∙ ap (λ (v : ℕ). 24 * (240 - v)) (sym q) }
+      record { wide = W; management = f 1; supervision = f 2; check = le-of-eq (sym (f 5 ∙ ap (λ (v : ℕ). 24 * (240 - v)) (sym q))) }
 
   pub lengths-of : (n k : ℕ) → n ≡ refusalBeside w p out → n ≡ 0 → getD (length out ∷ length m ∷ length s ∷ length g ∷ length h ∷ length r ∷ []) k 0 ≡ getD (6144 ∷ 24 ∷ 24 ∷ 192 ∷ 192 ∷ 24 * (240 - w) ∷ []) k 0
   lengths-of n k e z = six w (length out) (length m) (length s) (length g) (length h) (length r) k (sym e ∙ z)

@@ -3,7 +3,7 @@
 use mathlib.Core.Bool.{false}
 use mathlib.Core.List.{List, []}
 use mathlib.Core.Path.{_≡_}
-use Prim.Native.Nat.{ℕ, _-_, _*_, _<_}
+use Prim.Native.Nat.{ℕ, _-_, _*_, _<_, _≤_}
 use lib.ListN.{length}
 use Rattle.array.specs.Listed.{list}
 use Rattle.array.specs.CodingArray.{Wide, Parts, taken}
@@ -21,12 +21,12 @@ abbrev pub inArray : List ℕ → List ℕ → List ℕ → List ℕ → Parts
 inArray b m s r =
     record { information = b; management = m; supervision = s; synchronising = []; signalling = []; check = r }
 
--- they have the variant's lengths
+-- they have the variant's lengths; of check bytes there may be more
 pub record Held (w : ℕ) (p : Parts) : Type 0 where
   pub wide : Wide w
   pub management : length (p .management) ≡ 24
   pub supervision : length (p .supervision) ≡ 24
-  pub check : length (p .check) ≡ 24 * (240 - w)
+  pub check : 24 * (240 - w) ≤ length (p .check)
 
 pub record CellOf (w : ℕ) (p : Parts) (i j : ℕ) : Type 0 where
   pub held : Held w p

@@ -1,6 +1,7 @@
 //! Clause 8.4: a network frame over a leased G.704 line, and the parts of one that came back.
 
 use crate::frame::read;
+use crate::reed_solomon::{check_bytes, is_clean};
 
 pub const ROWS: usize = 24;
 pub const COLUMNS: usize = 240;
@@ -85,13 +86,12 @@ fn variant(number: usize) -> Result<Variant, u8> {
         .ok_or(12)
 }
 
-fn lengths(v: &Variant, output: usize, parts: &Parts) -> Result<(), u8> {
+fn lengths(output: usize, parts: &Parts) -> Result<(), u8> {
     let right = output == OUTPUT
         && parts.management.len() == BLOCKS
         && parts.supervision.len() == BLOCKS
         && parts.synchronising.len() == SLOTS
-        && parts.signalling.len() == SLOTS
-        && parts.check.len() == ROWS * v.check;
+        && parts.signalling.len() == SLOTS;
     if right {
         Ok(())
     } else {
@@ -99,10 +99,15 @@ fn lengths(v: &Variant, output: usize, parts: &Parts) -> Result<(), u8> {
     }
 }
 
-/// The way out: the information is the frame's, whatever stands in the parts.
+/// The information columns of a row, or the whole row, as they stand in an output array.
+fn columns(output: &[u8], i: usize, n: usize) -> Vec<u8> {
+    (0..n).map(|j| output[place(i, j)]).collect()
+}
+
+/// The way out: the information is the frame's and the check bytes are the rows', whatever stands in the parts.
 pub fn out(frame: &[u8], number: usize, parts: &Parts, output: usize) -> Result<Vec<u8>, u8> {
     let v = variant(number)?;
-    lengths(&v, output, parts)?;
+    lengths(output, parts)?;
     let fl = usize::from(read(frame)?.header.fl);
     let logical = (fl + 3) * 4;
     if logical > v.information {
@@ -117,10 +122,16 @@ pub fn out(frame: &[u8], number: usize, parts: &Parts, output: usize) -> Result<
         o[place(i, j)] = match cell(&v, i, j) {
             Cell::Management(n) => parts.management[n],
             Cell::Supervision(n) => parts.supervision[n],
-            Cell::Check(n) => parts.check[n],
+            Cell::Check(_) => 0,
             Cell::Information(n) if n < logical => frame[4 + n],
             Cell::Information(_) => 0xFF,
         };
+    }
+    for i in 0..ROWS {
+        let check = check_bytes(&columns(&o, i, v.width), v.check)?;
+        for (n, &c) in check.iter().enumerate() {
+            o[place(i, v.width + n)] = c;
+        }
     }
     Ok(o)
 }
@@ -128,8 +139,8 @@ pub fn out(frame: &[u8], number: usize, parts: &Parts, output: usize) -> Result<
 /// The way back, into parts of these lengths.
 pub fn back(output: &[u8], number: usize, lent: &Parts) -> Result<Parts, u8> {
     let v = variant(number)?;
-    lengths(&v, output.len(), lent)?;
-    if lent.information.len() != v.information {
+    lengths(output.len(), lent)?;
+    if lent.information.len() != v.information || lent.check.len() != ROWS * v.check {
         return Err(1);
     }
     let mut parts = lent.clone();
@@ -147,4 +158,44 @@ pub fn back(output: &[u8], number: usize, lent: &Parts) -> Result<Parts, u8> {
         part[n] = output[place(i, j)];
     }
     Ok(parts)
+}
+
+/// Which rows of an output array are clean: 1 or 0 for each.
+pub fn rows(output: &[u8], number: usize, clean: usize) -> Result<Vec<u8>, u8> {
+    let v = variant(number)?;
+    if output.len() != OUTPUT || clean != ROWS {
+        return Err(1);
+    }
+    (0..ROWS)
+        .map(|i| is_clean(&columns(output, i, COLUMNS), v.check).map(u8::from))
+        .collect()
+}
+
+/// The network frame of information that came back, with this sync word and this level.
+pub fn frame(
+    information: &[u8],
+    number: usize,
+    choice: u8,
+    level: u8,
+    room: usize,
+) -> Result<Vec<u8>, u8> {
+    let v = variant(number)?;
+    if information.len() != v.information || room != OUTPUT {
+        return Err(1);
+    }
+    let status = *[0xFF, 0xF0, 0x0F, 0x00].get(usize::from(level)).ok_or(12)?;
+    let fl = usize::from(information[2] & 7) << 8 | usize::from(information[3]);
+    let logical = (fl + 3) * 4;
+    if logical > v.information {
+        return Err(23);
+    }
+    let sync: [u8; 3] = match choice {
+        0 => [0x07, 0x3A, 0xB6],
+        _ => [0xF8, 0xC5, 0x49],
+    };
+    let mut made = vec![status];
+    made.extend(sync);
+    made.extend(&information[..logical]);
+    made.resize(OUTPUT, 0x55);
+    read(&made).map(|_| made)
 }

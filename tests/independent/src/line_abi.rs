@@ -16,8 +16,6 @@ extern "C" {
         synchronising_len: usize,
         signalling: *const u8,
         signalling_len: usize,
-        check: *const u8,
-        check_len: usize,
         output: *mut u8,
         output_len: usize,
     ) -> u8;
@@ -37,6 +35,22 @@ extern "C" {
         signalling_len: usize,
         check: *mut u8,
         check_len: usize,
+    ) -> u8;
+    fn spindlewren_line_rows(
+        output: *const u8,
+        output_len: usize,
+        variant: usize,
+        clean: *mut u8,
+        clean_len: usize,
+    ) -> u8;
+    fn spindlewren_line_frame(
+        information: *const u8,
+        information_len: usize,
+        variant: usize,
+        choice: u8,
+        level: u8,
+        frame: *mut u8,
+        frame_len: usize,
     ) -> u8;
     fn spindlewren_check_bytes(
         information: *const u8,
@@ -69,8 +83,6 @@ pub fn out(frame: &[u8], variant: usize, parts: &Parts, output: &mut [u8]) -> u8
             parts.synchronising.len(),
             parts.signalling.as_ptr(),
             parts.signalling.len(),
-            parts.check.as_ptr(),
-            parts.check.len(),
             output.as_mut_ptr(),
             output.len(),
         )
@@ -97,6 +109,32 @@ pub fn back(output: &[u8], variant: usize, parts: &mut [&mut [u8]; 6]) -> u8 {
             signalling.len(),
             check.as_mut_ptr(),
             check.len(),
+        )
+    }
+}
+
+pub fn rows(output: &[u8], variant: usize, clean: &mut [u8]) -> u8 {
+    unsafe {
+        spindlewren_line_rows(
+            output.as_ptr(),
+            output.len(),
+            variant,
+            clean.as_mut_ptr(),
+            clean.len(),
+        )
+    }
+}
+
+pub fn frame(information: &[u8], variant: usize, choice: u8, level: u8, frame: &mut [u8]) -> u8 {
+    unsafe {
+        spindlewren_line_frame(
+            information.as_ptr(),
+            information.len(),
+            variant,
+            choice,
+            level,
+            frame.as_mut_ptr(),
+            frame.len(),
         )
     }
 }

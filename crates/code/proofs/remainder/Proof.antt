@@ -3,36 +3,32 @@
 use mathlib.Core.Path.{_≡_, refl, ap, _∙_}
 use Prim.Native.Nat.{_-_, _≤_}
 use borrow.Author.Needs.{needs}
-use lib.ListN.{length, take, getD}
+use lib.ListN.{length, take, replicate}
 use lib.Seq.{take-all}
-use Rattle.code.specs.Code.{divide, remainder}
-use Rattle.code.proofs.CodeTurns.{remainder-more, divided-length}
+use Rattle.octets.specs.Words.{split}
+use Rattle.sum.specs.Sum.{bit}
+use Rattle.field.specs.Field.{twice, timesTo, times, power}
+use Rattle.code.specs.Code.{root, generator, remainder, checkBytes}
+use Rattle.code.specs.CodeClauses.{bytes5, five}
+use Rattle.code.proofs.CodeTurns.{remainder-more, by-generator}
 use Rattle.code.proofs.remainder.Statement.{statement}
 use Rattle.code.proofs.remainder.Tie as tie
 
 abbrev Inv-loop : tie.InvT-loop
-Inv-loop rest₀ g info i₀ rest i = (i ≤ length info) × (length rest ≡ length rest₀) × (rest ≡ remainder g rest₀ (take i info))
+Inv-loop info rest₀ i₀ rest i = (i ≤ length info) × (split bytes5 rest ≡ remainder five (replicate 5 0) (take i info))
 
 abbrev μ-loop : tie.MeasureT-loop
-μ-loop rest₀ g info i₀ rest i = length info - i
+μ-loop info rest₀ i₀ rest i = length info - i
 
 loop-holds : tie.Need-loop-holds Inv-loop μ-loop
-loop-holds c = (search needs, refl, refl)
+loop-holds c = (search needs, refl)
 
 loop-again : tie.Need-loop-again Inv-loop μ-loop
-loop-again c =
-    let rest = c .before .before .before .before .before .before .loop .rest in
-    let g = c .before .before .before .before .before .before .before .before .before .before .args .g .now in (
-      search needs,
-      divided-length g rest _ (getD (c .before .before .before .before .before .before .before .before .before .before .args .info .now) (c .before .before .before .before .before .before .loop .i) 0) (c .before .before .divide .ensures) (search needs) (search needs) ∙ c .before .before .before .before .before .before .loop .inv .1,
-      remainder-more _ _ (c .before .before .before .before .before .before .before .before .before .before .args .info .now) _ _ (c .before .before .before .before .before .before .loop .i) (search needs) (c .before .before .before .before .before .before .loop .inv .2) (c .before .before .divide .ensures),
-    )
-
-same-length : tie.Need-same-length Inv-loop μ-loop
-same-length c = c .before .loop .inv .1
+loop-again c = (search needs, remainder-more five (replicate 5 0) (c .before .before .before .before .before .args .info .now) (split bytes5 (c .before .before .before .loop .rest)) _ (c .before .before .before .loop .i) (search needs) (c .before .before .before .loop .inv .1) (c .divide .ensures))
 
 returns : tie.Need-returns Inv-loop μ-loop
-returns c = c .before .loop .inv .2 ∙ ap (remainder _ _) (take-all (c .before .loop .i) _ (c .loop-test .left))
+unfolding bit twice timesTo times power root generator
+returns c = c .before .loop .inv .1 ∙ ap (remainder _ _) (take-all (c .before .loop .i) _ (c .loop-test .left)) ∙ by-generator 5 _ _ refl
 
 pub remainder-spec : {M : Type 1} → statement M
 remainder-spec =
@@ -46,5 +42,4 @@ remainder-spec =
     (λ c. search needs)
     (λ c. search needs)
     loop-again
-    same-length
     returns)

@@ -2,7 +2,7 @@
 
 use independent::generate::frames::frame_case;
 use independent::generate::{Random, Sort};
-use independent::line::{back, out, Parts, BLOCKS, OUTPUT, ROWS, SLOTS, VARIANTS};
+use independent::line::{back, frame, out, rows, Parts, BLOCKS, OUTPUT, ROWS, SLOTS, VARIANTS};
 use independent::line_abi as abi;
 use independent::reed_solomon::{check_bytes, is_clean};
 use std::process::ExitCode;
@@ -14,6 +14,8 @@ const GUARD: usize = 16;
 struct Met {
     out: [u64; 24],
     back: [u64; 13],
+    clean: [u64; 13],
+    frame: [u64; 24],
     check: [u64; 2],
     rows: [u64; 3],
 }
@@ -39,11 +41,15 @@ fn report(cases: u64, met: &Met) -> ExitCode {
     println!("{cases} cases of a line and of a row");
     println!("out, by number: {:?}", met.out);
     println!("back, by number: {:?}", met.back);
+    println!("clean rows, by number: {:?}", met.clean);
+    println!("frames made again, by number: {:?}", met.frame);
     println!("check bytes, by number: {:?}", met.check);
     println!("rows not clean, refused, clean: {:?}", met.rows);
     let answered = [0, 1, 2, 3, 4, 5, 6, 7, 8, 9, 10, 12, 23];
     let all = answered.iter().all(|&n| met.out[n] > 0)
         && [0, 1, 12].iter().all(|&n| met.back[n] > 0)
+        && [0, 1, 12].iter().all(|&n| met.clean[n] > 0)
+        && [0, 1, 5, 6, 7, 8, 9, 12, 23].iter().all(|&n| met.frame[n] > 0)
         && !met.check.contains(&0)
         && !met.rows.contains(&0);
     println!(
@@ -120,7 +126,45 @@ fn line(random: &mut Random, met: &mut Met) -> Result<(), String> {
     same("out", random, before.clone(), expected.clone(), |o| {
         abi::out(&frame, number, &lent, o)
     })?;
-    home(random, &expected.unwrap_or(before), met)
+    let output = expected.unwrap_or(before);
+    told(random, &output, number, met)?;
+    home(random, &output, met)
+}
+
+/// Which rows are clean, now and then after a change.
+fn told(random: &mut Random, output: &[u8], number: usize, met: &mut Met) -> Result<(), String> {
+    let mut output = output.to_vec();
+    for _ in 0..random.pick(&[0, 1, 3]) {
+        if !output.is_empty() {
+            let at = random.below(output.len());
+            output[at] = random.byte();
+        }
+    }
+    let n = length(random, ROWS);
+    let before = random.bytes(n);
+    let expected = rows(&output, number, n);
+    met.clean[usize::from(expected.as_ref().err().copied().unwrap_or(0))] += 1;
+    same("clean rows", random, before, expected, |c| abi::rows(&output, number, c))
+}
+
+/// The frame of information: what came back, or a frame's logical bytes, with fill behind them.
+fn again(random: &mut Random, came: &[u8], number: usize, met: &mut Met) -> Result<(), String> {
+    let mut information = came.to_vec();
+    if random.one_in(2) {
+        let (_, other) = frame_case(random);
+        let logical = other.get(4..).unwrap_or(&[]);
+        let n = information.len().min(logical.len());
+        information[..n].copy_from_slice(&logical[..n]);
+    }
+    let choice = random.pick(&[0, 1, 255]);
+    let level = random.pick(&[0, 1, 2, 3, 3, 4, 255]);
+    let n = length(random, OUTPUT);
+    let before = random.bytes(n);
+    let expected = frame(&information, number, choice, level, n);
+    met.frame[usize::from(expected.as_ref().err().copied().unwrap_or(0))] += 1;
+    same("frame made again", random, before, expected, |f| {
+        abi::frame(&information, number, choice, level, f)
+    })
 }
 
 fn home(random: &mut Random, output: &[u8], met: &mut Met) -> Result<(), String> {
@@ -141,7 +185,7 @@ fn home(random: &mut Random, output: &[u8], met: &mut Met) -> Result<(), String>
     if (got, &bytes) != (answer, &guarded(&inside)) {
         return Err(format!("back: {got} for {answer}, or a byte"));
     }
-    Ok(())
+    again(random, &inside.information, number, met)
 }
 
 fn six(p: &Parts) -> [&[u8]; 6] {

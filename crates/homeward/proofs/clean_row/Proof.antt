@@ -1,0 +1,31 @@
+-- `homeward::clean_row` meets its contract.
+-- Assumes nothing.
+use mathlib.Core.Bool.{Bool}
+use mathlib.Core.Path.{sym, ap, _∙_}
+use borrow.Author.Needs.{needs}
+use Rattle.homeward.specs.RowsClean.{digit}
+use Rattle.homeward.proofs.RowsTold.{told}
+use Rattle.homeward.proofs.clean_row.Statement.{statement}
+use Rattle.homeward.proofs.clean_row.Tie as tie
+
+returns : tie.Need-returns
+returns c =
+    ap digit (sym (c .if1 .taken))
+    ∙ told (c .before .before .before .before .before .before .args .fourteen) (c .before .before .before .before .before .before .args .output .now) _ (c .before .before .before .before .before .before .args .i) _ _ (c .before .before .before .before .array-row .ensures) (c .before .before .width .ensures .0) (c .before .test-row .ensures)
+
+returns-2 : tie.Need-returns-2
+returns-2 c =
+    ap digit (sym (c .if1 .left))
+    ∙ told (c .before .before .before .before .before .before .args .fourteen) (c .before .before .before .before .before .before .args .output .now) _ (c .before .before .before .before .before .before .args .i) _ _ (c .before .before .before .before .array-row .ensures) (c .before .before .width .ensures .0) (c .before .test-row .ensures)
+
+pub clean-row-spec : {M : Type 1} → statement M
+clean-row-spec =
+    tie.close
+    (tie.spec
+    (λ c κs. search needs)
+    (λ c. search needs)
+    (λ c κs. search needs)
+    (λ c. search needs)
+    (λ c κs. search needs)
+    returns
+    returns-2)
