@@ -10,6 +10,7 @@ use independent::abi;
 use independent::edi;
 use independent::frame::{read, Timestamp, EMPTY, FRAME};
 use independent::generate::{Random, Sort};
+use independent::packets_abi;
 use independent::sum::sum;
 use independent::walk::{step, Item, State};
 use independent::writing::{write, Fields};
@@ -155,14 +156,14 @@ impl Bench {
         let frame = full_frame(64, false);
         let packet = packets::packet(&frame);
         let mut out = [0; FRAME];
-        assert_eq!(packets::regenerate(&packet, false, &mut out), 0);
+        assert_eq!(packets_abi::regenerate(&packet, 0, &mut out), 0);
         assert!(out[..] == frame[..]);
         self.time(
             "regenerating a full frame of NST 64 from its packet",
             (TIMES, "frame"),
             || {
                 let mut out = [0; FRAME];
-                repeat(|| packets::regenerate(black_box(&packet), false, black_box(&mut out)));
+                repeat(|| packets_abi::regenerate(black_box(&packet), 0, black_box(&mut out)));
             },
             || {
                 let mut out = [0; FRAME];

@@ -1,6 +1,4 @@
-//! A packet of tag items for a full frame of 64 streams, and the proved regenerating of it.
-
-use independent::frame::FRAME;
+//! A packet of tag items for a full frame of 64 streams.
 
 /// The bytes of an item: its name, its length in bits, its value.
 fn item(name: [u8; 4], value: &[u8]) -> Vec<u8> {
@@ -25,28 +23,4 @@ pub fn packet(frame: &[u8]) -> Vec<u8> {
         at += len;
     }
     packet
-}
-
-#[link(name = "packets", kind = "static")]
-extern "C" {
-    fn spindlewren_edi(
-        packet: *const u8,
-        packet_len: usize,
-        choice: u8,
-        out: *mut u8,
-        out_len: usize,
-    ) -> u8;
-}
-
-pub fn regenerate(packet: &[u8], fsync1: bool, out: &mut [u8; FRAME]) -> u8 {
-    // Safety: each pointer goes with its length, and the two do not overlap.
-    unsafe {
-        spindlewren_edi(
-            packet.as_ptr(),
-            packet.len(),
-            fsync1.into(),
-            out.as_mut_ptr(),
-            out.len(),
-        )
-    }
 }
