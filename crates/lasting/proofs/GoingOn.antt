@@ -4,7 +4,6 @@ use Prim.Native.Nat.{ℕ, _+_, _-_, _≤_, _<_}
 use mathlib.Core.Path.{_≡_, refl, sym, ap, _∙_}
 use mathlib.Core.Bool.{Bool, true, false, _&&_}
 use mathlib.Core.List.{List}
-use mathlib.Core.Option.{Option, none, some}
 use native.Mathlib.Decide.{decLe}
 use native.Mathlib.Omega.{arith}
 use lib.Dec.{lit<, leb}
@@ -15,12 +14,11 @@ use Rattle.walk.specs.declared.Item.{Item}
 use Rattle.walk.specs.declared.Position.{Position}
 use Rattle.walk.specs.declared.State.{State}
 use Rattle.walk.specs.declared.Step.{Step}
-use Rattle.walk.specs.Walk.{Judged, Stepped, live, look, stepBy, stepOf, locked}
+use Rattle.walk.specs.Walk.{Judged, Stepped, live, stepOf, locked}
 use Rattle.walk.specs.Records.{judged, Allowed, allowed, within, stepWith, stepAt}
-use Rattle.walk.proofs.ByRules.{by-rules, further}
 use Rattle.walk.proofs.Limits.{is-allowed, by-limit, step-is, step-outside}
-use Rattle.walk.proofs.Looks.{step-dead, step-live}
-use Rattle.walk.proofs.Misses.{step-keeps}
+use Rattle.walk.proofs.Looks.{step-dead}
+use Rattle.walk.proofs.Onward.{step-further, misses-below}
 use Rattle.live.specs.declared.LiveStep.{LiveStep}
 use Rattle.live.specs.declared.Told.the-variants.{Got, More}
 use Rattle.live.specs.Live.{atStart, later, laterItem, laterStep, isDone, wants, standing, spare, telling, tellingAt, waiting, waitingAt, far, liveAt}
@@ -29,29 +27,6 @@ use Rattle.live.proofs.LiveParts.{wants-allowed, wants-few, near-step}
 use Rattle.live.proofs.WindowSteps.{lock-gives}
 use Rattle.lasting.specs.LiveRuns.{needed}
 use Rattle.lasting.proofs.LineSteps.{done-later}
-
--- ---- the walk's own step
-module _ (R : Judged) (positive : 0 < R .period) where
-  ahead : (s : Position) → live R s ≡ true → s .place < stepOf R s .walk .place
-  unfolding stepBy
-  ahead s e = rw (step-live R positive s e) (go (look R s .gives))
-    where
-      t : Position
-      t = look R s .goes
-
-      go : (g : Option Item) → s .place < stepBy g t (stepOf R t) .walk .place
-      go none = omega (arith, further R positive s, step-keeps R positive (λ u. t .place ≤ u .place) (λ u v h. omega (arith, further R positive u)) t (omega arith))
-      go (some x) = further R positive s
-
-  -- in lock the misses stay below the limit
-  abbrev Few : Position → Type 0
-  Few s = s .lock ≡ true → s .misses < R .limit
-
-  few : 0 < R .limit → (s : Position) → Few s → Few (stepOf R s .walk)
-  few h =
-      step-keeps R positive Few
-      (by-rules R (λ s l. live R s ≡ true → Few s → Few (l .goes))
-      (λ p k e v f z. h) (λ p k e b v f z. b) (λ p k e v f z. let y : _≡_ {A = ℕ} 0 1 = cc in absurd (omega arith)) (λ p k e v f z. h) (λ p k v f z. let y : _≡_ {A = ℕ} 0 1 = cc in absurd (omega arith)))
 
 -- a step that gives an item goes further
 goes-ahead : (w : List ℕ) (s : State) → isDone (stepAt w s .item) ≡ false → s .position .place < stepAt w s .walk .position .place
@@ -68,7 +43,7 @@ goes-ahead w s n = by-limit (s .limit) _ inside outside
     inside e = rw (step-is w (s .limit) e (s .position)) (go (live R (s .position)) refl)
       where
         go : (b : Bool) → live R (s .position) ≡ b → s .position .place < stepOf R (s .position) .walk .place
-        go true l = ahead R (lit< tt) (s .position) l
+        go true l = step-further R (lit< tt) (s .position) l
         go false l = not-done (stepAt w s .item) _ (ap (λ (r : Step). isDone (r .item)) (step-is w (s .limit) e (s .position)) ∙ ap (λ (r : Stepped). isDone (r .item)) (step-dead R (lit< tt) (s .position) l)) n
 
     outside : allowed (s .limit) ≡ false → s .position .place < stepAt w s .walk .position .place
@@ -89,7 +64,7 @@ fresh-wants m ok s f = rw (f .limit) (go (s .position .lock) refl)
 
 step-fresh : (m : ℕ) → Allowed m → (w : List ℕ) (p : Position) → (p .lock ≡ true → p .misses < m) → Fresh m (stepAt w (within m p) .walk)
 unfolding judged stepWith
-step-fresh m ok w p f = rw (step-is w m (is-allowed m ok) p) (record { limit = refl; few = few (judged m w) (lit< tt) (ok .0) p f })
+step-fresh m ok w p f = rw (step-is w m (is-allowed m ok) p) (record { limit = refl; few = misses-below (judged m w) (lit< tt) (ok .0) p f })
 
 -- ---- where more bytes are wanted
 -- a walk in lock that more bytes make go on, and that shows nothing, has less than a period

@@ -2,6 +2,5 @@ pub mod Sights
 pub mod Shifted
 pub mod LineSteps
 pub mod GoingOn
-pub mod Repeated
 pub mod LineRuns
 pub mod LineDemand3

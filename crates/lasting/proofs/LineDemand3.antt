@@ -16,14 +16,13 @@ use Rattle.walk.specs.declared.State.{State}
 use Rattle.walk.specs.ItemValues.{placeOf}
 use Rattle.walk.specs.Records.{part, Allowed, start, stepAt, callsAt, stateAfter}
 use Rattle.walk.specs.Demand3.{EndsIn, UnbrokenIn, Out, outOf, frameOut, lostOut, idleOut, doneOut, outSince, framesOut, periodOut, periodsOut}
-use Rattle.walk.proofs.Limits.{limit-kept}
 use Rattle.walk.proofs.OverBytes.{intact-out, periods-handed-out}
+use Rattle.walk.proofs.Repeated.{calls-join, limit-stays}
 use Rattle.live.specs.declared.Told.{Told}
 use Rattle.live.specs.declared.Told.the-variants.{Got, More}
 use Rattle.live.specs.Live.{isDone, far}
 use Rattle.lasting.specs.LiveRuns.{handedBy, handed, called, Run, starts, comes, ends, steps}
 use Rattle.lasting.proofs.LineRuns.{run-even}
-use Rattle.lasting.proofs.Repeated.{calls-join}
 
 -- ---- what is handed out but for done
 unfoldable carried : List Out → List Out
@@ -136,11 +135,6 @@ behind [] b [] d l e = e
 behind [] b (y ∷ c) d l e = absurd (omega arith)
 behind (x ∷ a) b [] d l e = absurd (omega arith)
 behind (x ∷ a) b (y ∷ c) d l e = behind a b c d (omega arith) (cc)
-
-limit-stays : (v : List ℕ) (n : ℕ) (s : State) → stateAfter v n s .limit ≡ s .limit
-unfolding stateAfter
-limit-stays v zero s = refl
-limit-stays v (suc n) s = limit-stays v n (stepAt v s .walk) ∙ limit-kept v s
 
 -- DEMAND 3, SECOND PART, OF A LIVE LINE: whenever more bytes are wanted, a frame that has been handed out is followed by one item for each period that has come, until as many in a row as the limit are refused for another reason than 4
 pub line-periods : {m : ℕ} (ok : Allowed m) {came : List ℕ} {s : State} {xs : List Out} → Run m true came s xs → length came < far → (q : ℕ) → called came true s .told ≡ More q →

@@ -14,13 +14,14 @@ use Rattle.walk.specs.declared.State.{State}
 use Rattle.walk.specs.declared.Step.{Step}
 use Rattle.walk.specs.Records.{Allowed, start, stepAt, callsAt, stateAfter}
 use Rattle.walk.specs.Demand3.{Out, outOf}
+use Rattle.walk.proofs.Repeated.{done-again, calls-done, calls-join, state-join}
 use Rattle.live.specs.declared.LiveStep.{LiveStep}
 use Rattle.live.specs.declared.Told.the-variants.{Got, More}
 use Rattle.live.specs.Live.{isDone, telling, waiting, far}
+use Rattle.live.proofs.WindowSteps.{is-done}
 use Rattle.lasting.specs.LiveRuns.{handedBy, handed, window, called, Run, starts, comes, ends, steps, needed, Right, Faithful, Complete}
 use Rattle.lasting.proofs.LineSteps.{room, live-right, live-end, live-inside, all-done}
 use Rattle.lasting.proofs.GoingOn.{Fresh, fresh-wants, live-fresh, progress, kept, kept-place, got-goes, shows-none}
-use Rattle.lasting.proofs.Repeated.{is-done, done-again, calls-done, calls-join, state-join}
 
 -- ---- one step that is right keeps the run faithful
 module _ (m : ℕ) (v : List ℕ) where

@@ -19,10 +19,11 @@ use Rattle.walk.specs.declared.Step.{Step}
 use Rattle.walk.specs.Walk.{hunting}
 use Rattle.walk.specs.Records.{part, NoneStands, Allowed, allowed, within, stepAt}
 use Rattle.walk.proofs.Limits.{not-allowed}
+use Rattle.walk.proofs.Onward.{Passed, none-standing, walk-in}
 use Rattle.live.specs.Live.{placedAt, atStart, later, laterItem, laterStep, isDone, wants, standing, spare, telling, tellingAt, waiting, waitingAt, far, liveAt}
 use Rattle.live.proofs.FirstPlaces.{standing-clear}
 use Rattle.live.proofs.LiveParts.{wants-allowed, near-step, first-inside}
-use Rattle.live.proofs.WindowSteps.{Passed, none-standing, hunt-past, walk-in}
+use Rattle.live.proofs.WindowSteps.{hunt-past}
 use Rattle.lasting.specs.LiveRuns.{window, Right}
 use Rattle.lasting.proofs.Sights.{Sees, sees, sees-all, passed-same}
 use Rattle.lasting.proofs.Shifted.{step-later, spent-later, hunt-clear}

@@ -22,9 +22,9 @@ use Rattle.walk.specs.Records.{part, judged, Allowed, allowed, within, tableOf,
 use Rattle.walk.specs.Truth.{Over, ItemTrue}
 use Rattle.walk.proofs.Laws.{step-short, step-spent, step-kept, step-missed, step-last, step-confirmed}
 use Rattle.walk.proofs.Limits.{by-limit, step-is, step-outside}
+use Rattle.walk.proofs.Onward.{Passed, passed-step}
 use Rattle.walk.proofs.Truth.{step-true, done-there}
 use Rattle.live.specs.Live.{later, laterItem, laterStep, isDone}
-use Rattle.live.proofs.WindowSteps.{Passed, passed-step}
 use Rattle.lasting.proofs.Sights.{Sees, Found, found, confirmed-room, confirmed-same, passed-same}
 
 abbrev laterPosition : ℕ → Position → Position

@@ -13,7 +13,7 @@ use lib.Seq.{take-append-le, drop-append-le, drop-drop}
 use borrow.Author.Tests.{le-leb}
 use Rattle.walk.specs.Walk.{confirmed}
 use Rattle.walk.specs.Records.{part, judged}
-use Rattle.live.proofs.WindowSteps.{Passed, short-clear}
+use Rattle.walk.proofs.Onward.{Passed, short-clear}
 
 -- w is what v shows from d on, as far as w goes
 pub record Sees (d : ℕ) (w v : List ℕ) : Type 0 where

@@ -18,10 +18,11 @@ use Rattle.walk.specs.Walk.{hunting, locked}
 use Rattle.walk.specs.Records.{part, NoneStands, allowed, limitRefusalOf, within, stepAt}
 use Rattle.walk.proofs.ByRules.{and-left, and-right}
 use Rattle.walk.proofs.Limits.{number-allowed, number-outside}
+use Rattle.walk.proofs.Onward.{none-standing, walk-in, item-in}
 use Rattle.live.specs.Live.{placedAt, atStart, isDone, wants, standing, spare, tellingAt, waitingAt, overAt, far, liveAt}
 use Rattle.live.specs.LiveClauses.{Telling, Hunts, Locks}
 use Rattle.live.proofs.FirstPlaces.{standing-end, standing-here, standing-past, standing-clear}
-use Rattle.live.proofs.WindowSteps.{over-is-done, none-standing, hunt-past, hunt-short, lock-gives, walk-in, item-in}
+use Rattle.live.proofs.WindowSteps.{over-is-done, hunt-past, hunt-short, lock-gives}
 
 -- ---- whether more bytes make a walk go on
 module _ (more : Bool) (m k : ℕ) (lock : Bool) where

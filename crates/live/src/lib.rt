@@ -1,8 +1,7 @@
 // Walking a live line: its bytes come in pieces, for ever, and few are kept. A step goes by a window of the line, its bytes from the walk's place on.
+ghost use mathlib.Core.Bool.{true};
 ghost use mathlib.Core.Path.{_≡_};
-ghost use Prim.Native.Nat.{_+_, _≤_, _<_};
-ghost use lib.ListN.{length};
-ghost use mathlib.Core.Bool.{true, false};
+ghost use Prim.Native.Nat.{_+_, _<_};
 ghost use Rattle.walk.specs.ItemValues.{placeOf};
 ghost use Rattle.live.specs.Live.{placedAt, laterItem, isDone, wants, standing, tellingAt, waitingAt, overAt, liveAt};
 ghost use Rattle.live.specs.LiveClauses.{Telling, Hunts, Locks};

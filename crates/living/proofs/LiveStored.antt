@@ -7,13 +7,12 @@ use Prim.Native.Nat.{ℕ, _+_, _/_, _%_, _≤_, _<_}
 use native.Mathlib.Decide.{decLe}
 use native.Mathlib.Omega.{arith}
 use lib.ListN.{length, getD}
-use borrow.Author.Tests.{lt-ltb, le-ltb, le-leb, lt-leb}
+use borrow.Author.Tests.{lt-ltb, le-ltb}
 use Rattle.octets.specs.Stores.{put}
 use Rattle.octets.specs.Words.{split, bytes8}
 use Rattle.octets.specs.Choice.{pick}
 use Rattle.octets.proofs.Storing.{alone}
 use Rattle.frame.specs.Answers.{digit}
-use Rattle.walk.specs.declared.Item.{Item}
 use Rattle.walk.specs.declared.State.{State}
 use Rattle.controller.proofs.Tables.{digit-alone, kind-alone, walk-stored}
 use Rattle.controller.proofs.Telling.{few-misses}

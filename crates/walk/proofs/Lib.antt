@@ -8,8 +8,10 @@ pub mod Limits
 pub mod Looks
 pub mod Marks
 pub mod Misses
+pub mod Onward
 pub mod OverBytes
 pub mod Real
+pub mod Repeated
 pub mod Second
 pub mod Stepping
 pub mod Truth

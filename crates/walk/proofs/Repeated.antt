@@ -2,28 +2,17 @@
 -- Assumes nothing.
 use Prim.Native.Nat.{ℕ, zero, suc, _+_}
 use mathlib.Core.Path.{_≡_, refl, sym, ap, subst, _∙_}
-use mathlib.Core.Bool.{true}
-use mathlib.Core.List.{List, [], _∷_, _++_, map}
+use mathlib.Core.List.{List, _∷_, _++_, map}
 use native.Mathlib.Nat.{suc-add, zero-add}
-use native.Mathlib.Omega.{arith}
 use lib.ListN.{replicate}
-use Rattle.walk.specs.declared.Item.{Item}
-use Rattle.walk.specs.declared.Item.the-variants.{Frame, Lost, Idle, Done}
 use Rattle.walk.specs.declared.State.{State}
+use Rattle.walk.specs.Walk.{Item, Done}
 use Rattle.walk.specs.declared.Step.{Step}
 use Rattle.walk.specs.Records.{tableOf, stepWith, stepAt, callsAt, stateAfter}
 use Rattle.walk.specs.Demand3.{Out, outOf, doneOut}
 use Rattle.walk.specs.Truth.{ItemTrue}
-use Rattle.walk.proofs.Limits.{by-limit, step-is, step-outside}
+use Rattle.walk.proofs.Limits.{by-limit, step-is, step-outside, limit-kept}
 use Rattle.walk.proofs.Truth.{step-true, done-there}
-use Rattle.live.specs.Live.{isDone}
-
-pub is-done : (x : Item) → isDone x ≡ true → (p : ℕ) × (x ≡ Done p)
-unfolding isDone
-is-done (Done p) e = (p, refl)
-is-done (Frame p h) e = let y : _≡_ {A = ℕ} 0 1 = cc in absurd (omega arith)
-is-done (Lost p n) e = let y : _≡_ {A = ℕ} 0 1 = cc in absurd (omega arith)
-is-done (Idle p) e = let y : _≡_ {A = ℕ} 0 1 = cc in absurd (omega arith)
 
 module _ (v : List ℕ) where
   with-parts : (s : State) → stepAt v s ≡ stepWith v (stepAt v s .item) (stepAt v s .walk)
@@ -63,3 +52,8 @@ module _ (v : List ℕ) where
   unfolding stateAfter
   state-join zero b s = rw (zero-add b) refl
   state-join (suc a) b s = rw (suc-add a b) (state-join a b (stepAt v s .walk))
+
+  pub limit-stays : (n : ℕ) (s : State) → stateAfter v n s .limit ≡ s .limit
+  unfolding stateAfter
+  limit-stays zero s = refl
+  limit-stays (suc n) s = limit-stays n (stepAt v s .walk) ∙ limit-kept v s
