@@ -111,9 +111,11 @@ went a b c e = first (eqb a 0) refl e
     last : (d : Bool) → d ≡ c → pick {A = ℕ} d 23 0 ≡ 0 → d ≡ false
     last true q t = absurd (omega arith)
     last false q t = refl
+
     second : (d : Bool) → eqb b 0 ≡ d → pick d (pick c 23 0) b ≡ 0 → (b ≡ 0) × (c ≡ false)
     second true q t = (eqb-true b 0 q, last c refl t)
     second false q t = absurd (let x : true ≡ false = (rw t at q) in let y : _≡_ {A = ℕ} 0 1 = cc in omega arith)
+
     first : (d : Bool) → eqb a 0 ≡ d → pick d (pick (eqb b 0) (pick c 23 0) b) 1 ≡ 0 → (a ≡ 0) × (b ≡ 0) × (c ≡ false)
     first true q t = let u = second (eqb b 0) refl t in (eqb-true a 0 q, u .0, u .1)
     first false q t = absurd (omega arith)
