@@ -10,6 +10,8 @@ use independent::abi;
 use independent::edi;
 use independent::frame::{read, Timestamp, EMPTY, FRAME};
 use independent::generate::{Random, Sort};
+use independent::line::{self, Parts, BLOCKS, OUTPUT, ROWS, SLOTS};
+use independent::line_abi;
 use independent::packets_abi;
 use independent::sum::sum;
 use independent::walk::{step, Item, State};
@@ -22,6 +24,8 @@ const USAGE: &str = "usage: bench [--rounds N], N at least 1";
 const HUNTED: usize = 4 << 20;
 const CLEAN_FRAMES: usize = 400;
 const TIMES: usize = 1000;
+/// Frames of a round over a leased line.
+const LINES: usize = 10;
 /// Bytes of a sum: headers of NST 0, 1, 2, 14 and 64, and longer ones up to a full main stream's and a frame's.
 const LENGTHS: [usize; 9] = [6, 10, 14, 62, 64, 262, 1000, 6112, 6144];
 /// The limit of the walks timed.
@@ -55,6 +59,8 @@ fn main() -> ExitCode {
     bench.readings();
     bench.packets();
     bench.sums();
+    bench.lines(5592, ["out, 5,592 information bytes", "back, 5,592"]);
+    bench.lines(5376, ["out, 5,376 information bytes", "back, 5,376"]);
     bench.print();
     println!();
     print_sums(rounds);
@@ -182,6 +188,61 @@ impl Bench {
         );
     }
 
+    /// A frame that both variants carry over a leased line, with its check bytes, and back.
+    fn lines(&mut self, number: usize, [out, back]: [&'static str; 2]) {
+        let frame = frame_up_to(1341, 3, false);
+        let check = if number == 5592 { 5 } else { 14 };
+        let mut parts = Parts {
+            information: vec![0; number],
+            management: vec![0; BLOCKS],
+            supervision: vec![0; BLOCKS],
+            synchronising: vec![0; SLOTS],
+            signalling: vec![0; SLOTS],
+            check: vec![0; ROWS * check],
+        };
+        let lent = parts.clone();
+        let sent = line::out(&frame, number, &lent, OUTPUT).expect("carried");
+        let mut output = vec![0; OUTPUT];
+        self.time(
+            out,
+            (LINES, "frame"),
+            || {
+                (0..LINES).for_each(|_| {
+                    assert_eq!(
+                        line_abi::out(black_box(&frame), number, &lent, &mut output),
+                        0
+                    )
+                })
+            },
+            || {
+                (0..LINES).for_each(|_| {
+                    assert!(line::out(black_box(&frame), number, &lent, OUTPUT).is_ok())
+                })
+            },
+        );
+        let mut slices = [
+            &mut parts.information[..],
+            &mut parts.management[..],
+            &mut parts.supervision[..],
+            &mut parts.synchronising[..],
+            &mut parts.signalling[..],
+            &mut parts.check[..],
+        ];
+        self.time(
+            back,
+            (LINES, "frame"),
+            || {
+                (0..LINES).for_each(|_| {
+                    assert_eq!(line_abi::back(black_box(&sent), number, &mut slices), 0)
+                })
+            },
+            || {
+                (0..LINES)
+                    .for_each(|_| assert!(line::back(black_box(&sent), number, &lent).is_ok()))
+            },
+        );
+    }
+
     fn print(&self) {
         println!(
             "| what | unit | ours ns, median | ours min–max \
@@ -293,6 +354,10 @@ fn walked_rust(record: &[u8]) -> usize {
 
 /// A frame with as much in its streams as FL allows.
 fn full_frame(streams: usize, fsync1: bool) -> Vec<u8> {
+    frame_up_to(1532, streams, fsync1)
+}
+
+fn frame_up_to(fl: usize, streams: usize, fsync1: bool) -> Vec<u8> {
     let mut fields = Fields {
         level: 0,
         fsync1,
@@ -307,7 +372,7 @@ fn full_frame(streams: usize, fsync1: bool) -> Vec<u8> {
         timestamp: Timestamp::None,
         table: EMPTY,
     };
-    let most = (1532 - fields.fl()) / 2;
+    let most = (fl - fields.fl()) / 2;
     for (n, stream) in fields.table[..streams].iter_mut().enumerate() {
         stream.stl = ((most + n) / streams) as u16;
     }

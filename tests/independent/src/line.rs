@@ -69,7 +69,7 @@ fn cell(v: &Variant, i: usize, j: usize) -> Cell {
 }
 
 /// The index of a cell in the output array.
-fn place(i: usize, j: usize) -> usize {
+pub fn place(i: usize, j: usize) -> usize {
     let p = 1920 * (i / 8) + 8 * j + i % 8;
     p + p / 15 + 1
 }

@@ -49,7 +49,9 @@ fn report(cases: u64, met: &Met) -> ExitCode {
     let all = answered.iter().all(|&n| met.out[n] > 0)
         && [0, 1, 12].iter().all(|&n| met.back[n] > 0)
         && [0, 1, 12].iter().all(|&n| met.clean[n] > 0)
-        && [0, 1, 5, 6, 7, 8, 9, 12, 23].iter().all(|&n| met.frame[n] > 0)
+        && [0, 1, 5, 6, 7, 8, 9, 12, 23]
+            .iter()
+            .all(|&n| met.frame[n] > 0)
         && !met.check.contains(&0)
         && !met.rows.contains(&0);
     println!(
@@ -144,7 +146,9 @@ fn told(random: &mut Random, output: &[u8], number: usize, met: &mut Met) -> Res
     let before = random.bytes(n);
     let expected = rows(&output, number, n);
     met.clean[usize::from(expected.as_ref().err().copied().unwrap_or(0))] += 1;
-    same("clean rows", random, before, expected, |c| abi::rows(&output, number, c))
+    same("clean rows", random, before, expected, |c| {
+        abi::rows(&output, number, c)
+    })
 }
 
 /// The frame of information: what came back, or a frame's logical bytes, with fill behind them.
