@@ -16,7 +16,7 @@ uint16_t spindlewren_sum(const uint8_t *bytes, size_t len);
 enum { ROUNDS = 400, SORTS = 7 };
 
 static const char *what[SORTS] = {"libfec, check bytes of 24 rows", "check bytes of 24 rows", "reading", "out, with check bytes", "back", "clean rows", "frame made again"};
-static uint8_t frame[SPINDLEWREN_FRAME], answer[SPINDLEWREN_ANSWER], rows[SPINDLEWREN_ROWS][SPINDLEWREN_ROW], output[SPINDLEWREN_OUTPUT];
+static uint8_t frame[SPINDLEWREN_FRAME], answer[SPINDLEWREN_ANSWER], rows[SPINDLEWREN_CODING_ROWS][SPINDLEWREN_ROW], output[SPINDLEWREN_OUTPUT];
 static uint8_t information[SPINDLEWREN_5592], check[SPINDLEWREN_CHECK_5376], m[24], s[24], g[192], h[192], made[SPINDLEWREN_FRAME];
 static size_t variant, r;
 static void *rs;
@@ -51,16 +51,16 @@ static unsigned run(int sort) {
     switch (sort) {
     case 0:
 #ifdef FEC
-        for (k = 0; k < SPINDLEWREN_ROWS; k++) encode_rs_char(rs, rows[k], rows[k] + SPINDLEWREN_ROW - r);
+        for (k = 0; k < SPINDLEWREN_CODING_ROWS; k++) encode_rs_char(rs, rows[k], rows[k] + SPINDLEWREN_ROW - r);
 #endif
         return 0;
     case 1:
-        for (k = 0; k < SPINDLEWREN_ROWS; k++) n |= spindlewren_check_bytes(rows[k], SPINDLEWREN_ROW - r, rows[k] + SPINDLEWREN_ROW - r, r);
+        for (k = 0; k < SPINDLEWREN_CODING_ROWS; k++) n |= spindlewren_check_bytes(rows[k], SPINDLEWREN_ROW - r, rows[k] + SPINDLEWREN_ROW - r, r);
         return n;
     case 2: return spindlewren_read(frame, sizeof frame, answer, sizeof answer);
     case 3: return spindlewren_line_out(frame, sizeof frame, variant, m, 24, s, 24, g, 192, h, 192, output, sizeof output);
     case 4: return spindlewren_line_back(output, sizeof output, variant, information, variant, m, 24, s, 24, g, 192, h, 192, check, 24 * r);
-    case 5: return spindlewren_line_rows(output, sizeof output, variant, check, SPINDLEWREN_ROWS);
+    case 5: return spindlewren_line_rows(output, sizeof output, variant, check, SPINDLEWREN_CODING_ROWS);
     default: return spindlewren_line_frame(information, variant, variant, 0, 0, made, sizeof made);
     }
 }

@@ -7,23 +7,35 @@
 /* Exit statuses. */
 enum { DONE = 0, COULD_NOT = 1, WRONG_USE = 2 };
 
-/* What a verb is asked: a file or several; and, where the verb takes them, a place, a part's name, the limit of misses of a walk, which sync word, 0 or 1, a frame
-   gets, whether a page is wanted, and whether periods with no frame are filled. */
+/* What a verb is asked: a file or several; and, where the verb takes them, a way (out, back), a place, a part's name, the limit of misses of a walk, which sync
+   word, 0 or 1, a frame gets, the variant of a leased line, whether a page is wanted, and whether periods with no frame are filled. */
 struct request {
     const char *file;
     char **files;
     size_t count;
+    const char *way;
     int placed;
     size_t place;
     const char *part;
     size_t limit;
     size_t sync;
+    size_t variant;
     int html;
     int fill;
 };
 
 /* What a verb takes beside a file. */
-enum { TAKES_LIMIT = 1, TAKES_PLACE = 2, MAY_TAKE_PLACE = 4, TAKES_PART = 8, TAKES_MANY = 16, TAKES_SYNC = 32, TAKES_HTML = 64, TAKES_FILL = 128 };
+enum {
+    TAKES_LIMIT = 1,
+    TAKES_PLACE = 2,
+    MAY_TAKE_PLACE = 4,
+    TAKES_PART = 8,
+    TAKES_MANY = 16,
+    TAKES_SYNC = 32,
+    TAKES_HTML = 64,
+    TAKES_FILL = 128,
+    TAKES_WAY = 256 /* and a variant */
+};
 
 /* A verb: its name, what it takes, what it does, and the line of help. */
 struct verb {
@@ -35,6 +47,7 @@ struct verb {
 
 void edi_frame(const struct request *asked);
 void extract(const struct request *asked);
+void g704(const struct request *asked);
 void list(const struct request *asked);
 void profile(const struct request *asked);
 void show(const struct request *asked);

@@ -7,6 +7,7 @@
 static const struct verb verbs[] = {
     {"edi-frame", TAKES_SYNC, edi_frame, "edi-frame [--sync N] FILE            the frame that an EDI packet's tag items call for, its 6,144 bytes on standard output"},
     {"extract", TAKES_LIMIT | TAKES_PART | TAKES_FILL, extract, "extract [--limit M] [--fill] FILE N  the bytes of stream N, from 0 on, or of the FIC (fic), of every frame handed out"},
+    {"g704", TAKES_LIMIT | TAKES_WAY, g704, "g704 out|back [--variant V] FILE     a record's frames as multiframes of a leased line, or such multiframes as frames, on standard output"},
     {"list", TAKES_LIMIT, list, "list [--limit M] FILE                a line for each frame, lost mark and idle period, and the end"},
     {"log", TAKES_LIMIT, keep_log, "log [--limit M] FILE > LOG           the fault log of a record: sixteen bytes for each frame, lost mark and idle period"},
     {"profile", TAKES_LIMIT, profile, "profile [--limit M] FILE             of each frame handed out, whether it passes the final-stage profile, and what is in the way"},
@@ -24,6 +25,7 @@ static void help(FILE *to) {
     fprintf(to, "  spindlewren --help\n"
                 "FILE: -, for a walk, is standard input: any length, each item told as soon as it is there.\n"
                 "M: so many lost marks in a row end the lock, 1 to 8, 3 unless given. PLACE: a byte's number in the file, from 0 on.\n"
+                "V: the information bytes of the line's multiframe, 5592 unless given, or 5376.\n"
                 "Exit status: 0 done, 1 could not, 2 wrong use.\n");
 }
 
@@ -61,12 +63,18 @@ static int understood(const struct verb *verb, int argc, char **argv, struct req
         } else if (strcmp(argv[i], "--sync") == 0 && verb->takes & TAKES_SYNC) {
             if (++i == argc || !digits(argv[i], &asked->sync)) return wrong_use("--sync needs a number", "");
             if (asked->sync > 1) return wrong_use("--sync is 0 or 1: ", argv[i]);
+        } else if (strcmp(argv[i], "--variant") == 0 && verb->takes & TAKES_WAY) {
+            if (++i == argc || !digits(argv[i], &asked->variant)) return wrong_use("--variant needs a number", "");
+            if (asked->variant != 5592 && asked->variant != 5376) return wrong_use("--variant is 5592 or 5376: ", argv[i]);
         } else if (strcmp(argv[i], "--html") == 0 && verb->takes & TAKES_HTML) {
             asked->html = 1;
         } else if (strcmp(argv[i], "--fill") == 0 && verb->takes & TAKES_FILL) {
             asked->fill = 1;
         } else if (strncmp(argv[i], "--", 2) == 0) {
             return wrong_use("not known: ", argv[i]);
+        } else if (verb->takes & TAKES_WAY && asked->way == NULL) {
+            if (strcmp(argv[i], "out") != 0 && strcmp(argv[i], "back") != 0) return wrong_use("neither out nor back: ", argv[i]);
+            asked->way = argv[i];
         } else if (asked->count == 0) {
             asked->files[asked->count++] = argv[i];
         } else if ((status = further(verb, argv[i], asked)) != DONE) {
@@ -81,7 +89,7 @@ static int understood(const struct verb *verb, int argc, char **argv, struct req
 }
 
 int main(int argc, char **argv) {
-    struct request asked = {NULL, NULL, 0, 0, 0, NULL, 3, 0, 0, 0};
+    struct request asked = {NULL, NULL, 0, NULL, 0, 0, NULL, 3, 0, 5592, 0, 0};
     size_t i;
     int status, at;
     if (argc < 2) return wrong_use("no verb", "");

@@ -167,6 +167,7 @@ enum {
     SPINDLEWREN_BAD_ITEM = 20,      /* a tag item runs past the packet, is no whole number of bytes, or is a stream of no whole number of words */
     SPINDLEWREN_MANAGEMENT_ITEM = 21, /* management item missing, repeated, or of another length than it calls for */
     SPINDLEWREN_STREAM_NUMBERS = 22, /* stream numbers not 1 to NST, each once */
+    SPINDLEWREN_TOO_LONG = 23,      /* leased lines: the logical frame has more bytes than the variant carries */
     SPINDLEWREN_OUT_OF_PHASE = 24,  /* signalling: a frame out of phase, the group is dropped */
     SPINDLEWREN_OUT_OF_TURN = 25,   /* signalling: a continuation or end that is not due, or a start in an open message */
     SPINDLEWREN_CLOSING_SUM = 26,   /* signalling: the closing sum is wrong */
@@ -283,6 +284,7 @@ static inline const char *spindlewren_label(uint8_t number) {
     case SPINDLEWREN_BAD_ITEM: return "a tag item of a wrong length";
     case SPINDLEWREN_MANAGEMENT_ITEM: return "management item missing, repeated or of a wrong length";
     case SPINDLEWREN_STREAM_NUMBERS: return "stream numbers not 1 to NST, each once";
+    case SPINDLEWREN_TOO_LONG: return "more bytes than the variant carries";
     case SPINDLEWREN_OUT_OF_PHASE: return "a frame is out of phase";
     case SPINDLEWREN_OUT_OF_TURN: return "a group is out of turn";
     case SPINDLEWREN_CLOSING_SUM: return "closing sum wrong";

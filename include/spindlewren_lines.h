@@ -21,7 +21,7 @@ enum {
     SPINDLEWREN_CHECK_5592 = 120,   /* 24 rows of 5 */
     SPINDLEWREN_CHECK_5376 = 336,   /* 24 rows of 14 */
     SPINDLEWREN_ROW = 240,
-    SPINDLEWREN_ROWS = 24
+    SPINDLEWREN_CODING_ROWS = 24
 };
 
 /* Each returns 0, or a refusal's number, and then nothing is written: 12 for another variant, 1 for a part of another length,
