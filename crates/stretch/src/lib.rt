@@ -161,6 +161,9 @@ fn rest(crc: u16, bytes: &[u8], n: usize) -> u16
 pub fn few(start: u16, bytes: &[u8]) -> u16
     ensures { λ r. ⌜ ((s : Register) → start ≡ word s → r ≡ word (after s (now (bytes .entry)))) ⌝ }
 {
+    if bytes.len() < 4 {
+        return ones(start, bytes, 0);
+    }
     let n = bytes.len() / 8 * 8;
     rest(words(start, bytes, n), bytes, n)
 }
