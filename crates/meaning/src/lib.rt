@@ -1,9 +1,11 @@
 // What single fields mean: functions of numbers alone.
+ghost use mathlib.Core.List.{[], _∷_};
 ghost use mathlib.Core.Path.{_≡_};
-ghost use Prim.Native.Nat.{_≤_};
+ghost use Prim.Native.Nat.{_≤_, _<_};
+ghost use Rattle.octets.specs.Words.{join};
 ghost use Rattle.sum.specs.Sum.{digit};
 ghost use Rattle.octets.specs.Choice.{placeIn};
-ghost use Rattle.frame.specs.Frame.{statuses, fsyncs, ficlBy};
+ghost use Rattle.frame.specs.Frame.{statuses, statusBy, fsyncs, fsyncBy, syncWidths, ficlBy};
 
 // Which of the two sync words n is, and 2 where it is neither.
 pub fn fsync(n: u32) -> u8
@@ -35,6 +37,35 @@ pub fn level(status: u8) -> u8
         return 3;
     }
     4
+}
+
+// The status byte of a level; of a number that is no level, 00.
+fn status(level: u8) -> usize
+    ensures { λ r. ⌜ (r ≡ statusBy level) × (r < 256) ⌝ }
+{
+    if level == 0 {
+        return 0xFF;
+    }
+    if level == 1 {
+        return 0xF0;
+    }
+    if level == 2 {
+        return 0x0F;
+    }
+    0x00
+}
+
+fn sync_word(fsync1: bool) -> usize
+    ensures { λ r. ⌜ (r ≡ fsyncBy (digit fsync1)) × (r < 16777216) ⌝ }
+{
+    if fsync1 { 0xF8C549 } else { 0x073AB6 }
+}
+
+// SYNC: a level's status byte, and which of the two sync words.
+pub fn sync(level: u8, fsync1: bool) -> usize
+    ensures { λ r. ⌜ r ≡ join syncWidths (statusBy level ∷ fsyncBy (digit fsync1) ∷ []) ⌝ }
+{
+    status(level) * 16777216 + sync_word(fsync1)
 }
 
 // A flag as its bit.

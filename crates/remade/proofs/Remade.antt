@@ -81,7 +81,6 @@ module _ (fourteen fsync1 : Bool) (level : ℕ) (b out : List ℕ) where
 
   -- what is left after the first tests
   pub record Within (logical : ℕ) : Type 0 where
-    pub known : level ≤ 3
     pub whole : length b ≡ carried w
     pub carries : logical ≤ carried w
     pub room : length out ≡ 6144
@@ -95,7 +94,6 @@ module _ (fourteen fsync1 : Bool) (level : ℕ) (b out : List ℕ) where
     within =
         let t = passed (eqb (length b) (carried w)) (eqb (length out) 6144) (ltb 3 level) (ltb (carried w) (logicalWithin b)) early in
         record {
-          known = ltb-false 3 level (t .2);
           whole = eqb-true (length b) (carried w) (t .0);
           carries = rw d (ltb-false (carried w) (logicalWithin b) (t .3));
           room = eqb-true (length out) 6144 (t .1);

@@ -1,43 +1,16 @@
 // The network frame made again from the information bytes that came back. Sync word and level are the caller's: neither is in the information.
-ghost use mathlib.Core.List.{[], _∷_, _++_};
+ghost use mathlib.Core.List.{_++_};
 ghost use mathlib.Core.Path.{_≡_};
 ghost use Prim.Native.Nat.{_-_, _≤_, _<_};
 ghost use lib.ListN.{length, take, replicate};
-ghost use Rattle.octets.specs.Words.{split, join, bytes4};
-ghost use Rattle.frame.specs.Frame.{syncWidths, statusBy, fsyncBy};
-ghost use Rattle.remade.specs.Remaking.{digit, flWithin, earlyRefusal, MakesFrame};
+ghost use Rattle.octets.specs.Words.{split, bytes4};
+ghost use Rattle.remade.specs.Remaking.{flWithin, earlyRefusal, MakesFrame};
 
 // FL of the information's FC.
 fn fl(information: &[u8]) -> usize
     ensures { λ r. ⌜ (r ≡ flWithin (now (information .entry))) × (r < 2048) ⌝ }
 {
     octets::word(information, 0) % 2048
-}
-
-fn status(level: u8) -> usize
-    requires { ⌜ level ≤ 3 ⌝ }
-    ensures { λ r. ⌜ (r ≡ statusBy level) × (r < 256) ⌝ }
-{
-    if level == 0 {
-        return 0xFF;
-    }
-    if level == 1 {
-        return 0xF0;
-    }
-    if level == 2 { 0x0F } else { 0x00 }
-}
-
-fn fsync(fsync1: bool) -> usize
-    ensures { λ r. ⌜ (r ≡ fsyncBy (digit fsync1)) × (r < 16777216) ⌝ }
-{
-    if fsync1 { 0xF8C549 } else { 0x073AB6 }
-}
-
-fn start(level: u8, fsync1: bool) -> usize
-    requires { ⌜ level ≤ 3 ⌝ }
-    ensures { λ r. ⌜ r ≡ join syncWidths (statusBy level ∷ fsyncBy (digit fsync1) ∷ []) ⌝ }
-{
-    status(level) * 16777216 + fsync(fsync1)
 }
 
 // The frame that begins with the start and the logical bytes; the rest is padding.
@@ -95,7 +68,7 @@ pub fn frame(information: &[u8], fourteen: bool, fsync1: bool, level: u8, out: &
     if wrong != 0 {
         return wrong;
     }
-    let frame = made(information, start(level, fsync1), logical);
+    let frame = made(information, meaning::sync(level, fsync1), logical);
     let refusal = judging::judge(&frame);
     if refusal != 0 {
         return refusal;

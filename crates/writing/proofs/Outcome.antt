@@ -13,7 +13,7 @@ use Rattle.writing.specs.WriteClauses.{Ready}
 pub ready : (x : Fields) (m o n : ℕ) → n ≡ writingRefusalOf x m o → n ≡ 0 → Ready x m o
 ready x m o n e z =
     let w = writable x m o (sym e ∙ z) in
-    record { level = w .level; count = w .streams; room = w .room; main = w .whole; out = written-whole x m o (sym e ∙ z) }
+    record { count = w .streams; room = w .room; main = w .whole; out = written-whole x m o (sym e ∙ z) }
 
 module _ (x : Fields) (main out : List ℕ) (n : ℕ) (e : n ≡ writingRefusalOf x (length main) (length out)) where
   pub write-refused : (n ≡ 0 → ⊥) → Writes x main out out n

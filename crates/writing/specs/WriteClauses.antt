@@ -8,7 +8,6 @@ use Rattle.frame.specs.Writing.{ficlIn, flIn, entriesOf}
 
 -- what a writing that is not refused has shown, with the lengths of main stream and output
 pub record Ready (x : Fields) (m o : ℕ) : Type 0 where
-  pub level : x .level ≤ 3
   pub count : x .count ≤ 64
   pub room : flIn x ≤ 1532
   pub main : m ≡ 4 * ficlIn x + 8 * stlTotal (entriesOf x)

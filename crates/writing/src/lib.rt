@@ -4,7 +4,7 @@ ghost use mathlib.Core.Path.{_≡_};
 ghost use Prim.Native.Nat.{_+_, _-_, _*_, _≤_, _<_};
 ghost use lib.ListN.{length, take, replicate};
 ghost use Rattle.octets.specs.Words.{split, join, bytes2, bytes4};
-ghost use Rattle.frame.specs.Frame.{syncWidths, statusBy, fsyncBy, fcWidths, sstcWidths, tistWidths};
+ghost use Rattle.frame.specs.Frame.{fcWidths, sstcWidths, tistWidths};
 ghost use Rattle.frame.specs.Answers.{digit, timeBy};
 ghost use Rattle.frame.specs.Writing.{streamValues, streamsBytes, flIn, syncIn, headerIn, frameIn, Writes};
 ghost use Rattle.octets.specs.Stores.{put};
@@ -21,25 +21,6 @@ fn time(timestamp: Timestamp) -> usize
         Timestamp::Time(n) => n as usize,
         Timestamp::Reserved(n) => n as usize,
     }
-}
-
-fn status(level: u8) -> usize
-    requires { ⌜ level ≤ 3 ⌝ }
-    ensures { λ r. ⌜ (r ≡ statusBy level) × (r < 256) ⌝ }
-{
-    if level == 0 {
-        return 0xFF;
-    }
-    if level == 1 {
-        return 0xF0;
-    }
-    if level == 2 { 0x0F } else { 0x00 }
-}
-
-fn fsync(fsync1: bool) -> usize
-    ensures { λ r. ⌜ (r ≡ fsyncBy (digit fsync1)) × (r < 16777216) ⌝ }
-{
-    if fsync1 { 0xF8C549 } else { 0x073AB6 }
 }
 
 fn stream_word(s: Stream) -> usize
@@ -75,13 +56,6 @@ fn pad(out: &mut [u8], from: usize)
     }
 }
 
-fn sync_word(level: u8, fsync1: bool) -> usize
-    requires { ⌜ level ≤ 3 ⌝ }
-    ensures { λ r. ⌜ r ≡ join syncWidths (statusBy level ∷ fsyncBy (digit fsync1) ∷ []) ⌝ }
-{
-    status(level) * 16777216 + fsync(fsync1)
-}
-
 fn fc_word(fct: u8, ficf: bool, count: usize, fp: u8, mid: u8, fl: usize) -> usize
     requires { ⌜ (count ≤ 64) × (fl ≤ 1532) ⌝ }
     ensures { λ r. ⌜ r ≡ join fcWidths (fct ∷ digit ficf ∷ count ∷ fp ∷ mid ∷ fl ∷ []) ⌝ }
@@ -102,12 +76,12 @@ fn tist_word(rfa: u8, timestamp: Timestamp) -> usize
 
 // SYNC, FC, STC and MNSC.
 fn put_header(out: &mut [u8], x: Fields, fl: usize)
-    requires { ⌜ (x .level ≤ 3) × (x .count ≤ 64) × (fl ≡ flIn x) × (fl ≤ 1532) × (length (now out) ≡ 6144) ⌝ }
+    requires { ⌜ (x .count ≤ 64) × (fl ≡ flIn x) × (fl ≤ 1532) × (length (now out) ≡ 6144) ⌝ }
     ensures { λ _. ⌜ (now (out .exit) ≡ put (now (out .entry)) 0 (syncIn x ++ headerIn x)) × (length (headerIn x) ≡ 6 + 4 * x .count) ⌝ }
 {
     let count = x.count;
     let table = x.table;
-    putting::put4(out, 0, sync_word(x.level, x.fsync1));
+    putting::put4(out, 0, meaning::sync(x.level, x.fsync1));
     putting::put4(out, 4, fc_word(x.fct, x.ficf, count, x.fp, x.mid, fl));
     put_streams(out, table, count);
     putting::put2(out, 8 + 4 * count, x.mnsc);

@@ -14,20 +14,17 @@ most v = 3 * (v * 8 - 16)
 returns : tie.Need-returns
 returns c = refused-early (c .before .before .before .before .before .before .args .fourteen) (c .before .before .before .before .before .before .args .fsync1) (c .before .before .before .before .before .before .args .level) (c .before .before .before .before .before .before .args .information .now) (c .before .before .before .before .before .before .args .out .now) _ _ _ (c .before .before .before .fl .ensures .0) (ap most (c .before .before .width .ensures .0)) (c .before .early .ensures) (c .if1 .taken)
 
-start-requires : tie.Need-start-requires
-start-requires c κs = within (c .before .before .before .before .before .before .args .fourteen) (c .before .before .before .before .before .before .args .fsync1) (c .before .before .before .before .before .before .args .level) (c .before .before .before .before .before .before .args .information .now) (c .before .before .before .before .before .before .args .out .now) _ _ _ (c .before .before .before .fl .ensures .0) (ap most (c .before .before .width .ensures .0)) (c .before .early .ensures) (c .if1 .left) .known
-
 made-requires : tie.Need-made-requires
 made-requires c κs = bounds (c .before .before .before .before .before .before .before .args .fourteen) (c .before .before .before .before .before .before .before .args .fsync1) (c .before .before .before .before .before .before .before .args .level) (c .before .before .before .before .before .before .before .args .information .now) (c .before .before .before .before .before .before .before .args .out .now) _ _ _ (c .before .before .before .before .fl .ensures .0) (ap most (c .before .before .before .width .ensures .0)) (c .before .before .early .ensures) (c .before .if1 .left)
 
 returns-2 : tie.Need-returns-2
-returns-2 c = refused-frame (c .before .before .before .before .before .before .before .before .before .before .before .args .fourteen) (c .before .before .before .before .before .before .before .before .before .before .before .args .fsync1) (c .before .before .before .before .before .before .before .before .before .before .before .args .level) (c .before .before .before .before .before .before .before .before .before .before .before .args .information .now) (c .before .before .before .before .before .before .before .before .before .before .before .args .out .now) _ _ _ (c .before .before .before .before .before .before .before .before .fl .ensures .0) (ap most (c .before .before .before .before .before .before .before .width .ensures .0)) (c .before .before .before .before .before .before .early .ensures) (c .before .before .before .before .before .if1 .left) _ _ _ (c .before .before .before .before .start .ensures) (c .before .before .before .made .ensures) (c .before .judge .ensures) (c .if2 .taken)
+returns-2 c = refused-frame (c .before .before .before .before .before .before .before .before .before .before .before .args .fourteen) (c .before .before .before .before .before .before .before .before .before .before .before .args .fsync1) (c .before .before .before .before .before .before .before .before .before .before .before .args .level) (c .before .before .before .before .before .before .before .before .before .before .before .args .information .now) (c .before .before .before .before .before .before .before .before .before .before .before .args .out .now) _ _ _ (c .before .before .before .before .before .before .before .before .fl .ensures .0) (ap most (c .before .before .before .before .before .before .before .width .ensures .0)) (c .before .before .before .before .before .before .early .ensures) (c .before .before .before .before .before .if1 .left) _ _ _ (c .before .before .before .before .sync .ensures) (c .before .before .before .made .ensures) (c .before .judge .ensures) (c .if2 .taken)
 
 copy-requires : tie.Need-copy-requires
 copy-requires c κs = within (c .before .before .before .before .before .before .before .before .before .before .before .before .args .fourteen) (c .before .before .before .before .before .before .before .before .before .before .before .before .args .fsync1) (c .before .before .before .before .before .before .before .before .before .before .before .before .args .level) (c .before .before .before .before .before .before .before .before .before .before .before .before .args .information .now) (c .before .before .before .before .before .before .before .before .before .before .before .before .args .out .now) _ _ _ (c .before .before .before .before .before .before .before .before .before .fl .ensures .0) (ap most (c .before .before .before .before .before .before .before .before .width .ensures .0)) (c .before .before .before .before .before .before .before .early .ensures) (c .before .before .before .before .before .before .if1 .left) .room
 
 returns-3 : tie.Need-returns-3
-returns-3 c = remade (c .before .before .before .before .before .before .before .before .before .before .before .before .before .before .before .args .fourteen) (c .before .before .before .before .before .before .before .before .before .before .before .before .before .before .before .args .fsync1) (c .before .before .before .before .before .before .before .before .before .before .before .before .before .before .before .args .level) (c .before .before .before .before .before .before .before .before .before .before .before .before .before .before .before .args .information .now) (c .before .before .before .before .before .before .before .before .before .before .before .before .before .before .before .args .out .now) _ _ _ (c .before .before .before .before .before .before .before .before .before .before .before .before .fl .ensures .0) (ap most (c .before .before .before .before .before .before .before .before .before .before .before .width .ensures .0)) (c .before .before .before .before .before .before .before .before .before .before .early .ensures) (c .before .before .before .before .before .before .before .before .before .if1 .left) _ _ _ _ (c .before .before .before .before .before .before .before .before .start .ensures) (c .before .before .before .before .before .before .before .made .ensures) (c .before .before .before .before .before .judge .ensures) (c .before .before .before .before .if2 .left) (c .before .before .copy .ensures)
+returns-3 c = remade (c .before .before .before .before .before .before .before .before .before .before .before .before .before .before .before .args .fourteen) (c .before .before .before .before .before .before .before .before .before .before .before .before .before .before .before .args .fsync1) (c .before .before .before .before .before .before .before .before .before .before .before .before .before .before .before .args .level) (c .before .before .before .before .before .before .before .before .before .before .before .before .before .before .before .args .information .now) (c .before .before .before .before .before .before .before .before .before .before .before .before .before .before .before .args .out .now) _ _ _ (c .before .before .before .before .before .before .before .before .before .before .before .before .fl .ensures .0) (ap most (c .before .before .before .before .before .before .before .before .before .before .before .width .ensures .0)) (c .before .before .before .before .before .before .before .before .before .before .early .ensures) (c .before .before .before .before .before .before .before .before .before .if1 .left) _ _ _ _ (c .before .before .before .before .before .before .before .before .sync .ensures) (c .before .before .before .before .before .before .before .made .ensures) (c .before .before .before .before .before .judge .ensures) (c .before .before .before .before .if2 .left) (c .before .before .copy .ensures)
 
 pub frame-spec : {M : Type 1} → statement M
 frame-spec =
@@ -42,7 +39,7 @@ frame-spec =
     (λ c. search needs)
     (λ c κs. search needs)
     returns
-    start-requires
+    (λ c κs. search needs)
     made-requires
     (λ c. search needs)
     (λ c κs. search needs)

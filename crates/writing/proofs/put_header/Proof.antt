@@ -8,14 +8,14 @@ returns c =
     let start = c .before .before .before .before .before .before .before .before .before .before .before .before .before .before .before .before .before .before .before .before in
     let x = start .args .x in
     let t = c .before .before .before .before .before .before .put-streams .ensures .1 in (
-      header-puts x (start .args .out .now) (start .pre .4) t (start .pre .1) _ _ _ _ _ _
+      header-puts x (start .args .out .now) (start .pre .3) t (start .pre .0) _ _ _ _ _ _
           (c .before .before .before .before .before .before .before .before .before .before .before .before .before .before .before .put4 .ensures)
-          (c .before .before .before .before .before .before .before .before .before .before .before .before .before .before .before .before .sync-word .ensures)
+          (c .before .before .before .before .before .before .before .before .before .before .before .before .before .before .before .before .sync .ensures)
           (c .before .before .before .before .before .before .before .before .before .before .put42 .ensures)
           (cc)
           (c .before .before .before .before .before .before .put-streams .ensures .0)
           (c .before .before .put2 .ensures),
-      header-length x t (start .pre .1),
+      header-length x t (start .pre .0),
     )
 
 pub put-header-spec : {M : Type 1} → statement M
