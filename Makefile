@@ -17,7 +17,7 @@ example: target/example/controller
 
 target/example/controller: examples/controller.c include/spindlewren.h $(shell find crates crates.txt -type f)
 	@mkdir -p target/example
-	@$(CC) -std=c99 -O2 -Wall -Wextra -Wpedantic -Werror -Iinclude examples/controller.c "$$(tools/archive controller)" "$$(tools/archive sizing)" "$$(tools/archive profiles)" -o $@
+	@$(CC) -std=c99 -O2 -Wall -Wextra -Wpedantic -Werror -Iinclude examples/controller.c "$$(tools/archive controller)" "$$(tools/archive walks)" "$$(tools/archive sizing)" "$$(tools/archive profiles)" -o $@
 
 # the line from standard input
 line-example: target/example/line
@@ -25,7 +25,7 @@ line-example: target/example/line
 
 target/example/line: examples/line.c include/spindlewren.h $(shell find crates crates.txt -type f)
 	@mkdir -p target/example
-	@$(CC) -std=c99 -O2 -Wall -Wextra -Wpedantic -Werror -Iinclude examples/line.c "$$(tools/archive controller)" "$$(tools/archive living)" -o $@
+	@$(CC) -std=c99 -O2 -Wall -Wextra -Wpedantic -Werror -Iinclude examples/line.c "$$(tools/archive controller)" "$$(tools/archive walks)" "$$(tools/archive living)" -o $@
 
 command: target/command/spindlewren
 	@echo "$(CURDIR)/target/command/spindlewren"

@@ -33,11 +33,14 @@ static size_t whole(void) {
 static size_t by_pieces(void) {
     uint8_t walk[SPINDLEWREN_WALK];
     size_t begin = 0, end = 0, came = 0, items = 0;
+    uint64_t from = 0;
     spindlewren_begin(3, walk, sizeof walk);
     do {
-        uint64_t from = spindlewren_number(walk, SPINDLEWREN_PLACE, 8);
+        uint64_t place;
         spindlewren_live(window + begin, end - begin, came < sizeof record, walk, sizeof walk);
-        begin += (size_t)(spindlewren_number(walk, SPINDLEWREN_PLACE, 8) - from);
+        place = spindlewren_number(walk, SPINDLEWREN_PLACE, 8);
+        begin += (size_t)(place - from);
+        from = place;
         if (walk[SPINDLEWREN_KIND] == SPINDLEWREN_IS_MORE) {
             size_t n = sizeof record - came < piece ? sizeof record - came : piece;
             if (end + n > sizeof window) {
@@ -55,14 +58,16 @@ static size_t by_pieces(void) {
     return items;
 }
 
-/* The copying alone, as by_pieces does it. */
-static size_t copied(void) {
+/* What by_pieces does beside the calls: it copies, and reads the walk's place. */
+static size_t beside(void) {
+    uint8_t walk[SPINDLEWREN_WALK] = {0};
     size_t came, end = 0, sum = 0;
     for (came = 0; came + piece <= sizeof record; came += piece) {
         if (end + piece > sizeof window) end = TWO;
         memcpy(window + end, record + came, piece);
         end += piece;
-        sum += window[end - 1];
+        walk[end & 7] = window[end - 1];
+        sum += (size_t)spindlewren_number(walk, SPINDLEWREN_PLACE, 8);
     }
     return sum;
 }
@@ -87,7 +92,7 @@ static void tell(const char *what) {
         double p, m;
         piece = pieces[i];
         p = least(by_pieces, &b);
-        m = least(copied, &c);
+        m = least(beside, &c);
         printf("%-24s %6zu %8.3f %8.3f %8.3f %6.2f\n", what, piece, w, p, m, (p - m) / w);
         if (a != b) exit(1);
     }
@@ -99,7 +104,7 @@ int main(int argc, char **argv) {
     size_t i;
     if (file == NULL || fread(record, 1, TWO, file) != TWO) return 1;
     fclose(file);
-    printf("us for a period          pieces    whole     line  copying  ratio\n");
+    printf("us for a period          pieces    whole     line   beside  ratio\n");
     for (i = 2; i < PERIODS; i++) memcpy(record + i * SPINDLEWREN_FRAME, record + i % 2 * SPINDLEWREN_FRAME, SPINDLEWREN_FRAME);
     tell("in lock");
     for (i = 0; i < sizeof record; i++) {

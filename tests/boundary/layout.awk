@@ -1,7 +1,6 @@
-# The layouts as crates/controller/specs/Boundary.antt and crates/reasons/specs/WhyBytes.antt define them (with streamValues of frame/specs/Writing.antt and the rules):
+# The layouts as AnswerBytes, Boundary, WalkBytes and WhyBytes under crates/ define them (with streamValues of frame/specs/Writing.antt and the rules):
 # a line for each value, 'at NAME OFFSET BYTES'; for each whole, 'whole NAME BYTES'; for each refusal number, 'number N'.
 function name(value) {
-    if (value ~ /placeOf/) return "ITEM"
     if (value ~ /reasonNumber/) return "REASON"
     if (value ~ /refusalGiven/) return "REFUSAL"
     if (value ~ /placeGiven/) return "BEFORE"
@@ -28,7 +27,7 @@ function number(piece, from,    counts, values) {
 { left = $0; sub(/^.* = /, "", left) }
 /^(first|second|third|stream|marks|why)Values .* = / || /^(first|second|third|stream|marks|why)Counts = / { is[$1] = left }
 /^partBytes .* = / { print "whole PART", number(left, 0) }
-/^stepBytes .* = / { steps = left }
+/^toldBytes .* = / { steps = left }
 FILENAME !~ /Writing/ {
     for (rest = $0; match(rest, /\([0-9]+ when /); rest = substr(rest, RSTART + RLENGTH)) print "number", substr(rest, RSTART + 1, RLENGTH - 7)
 }

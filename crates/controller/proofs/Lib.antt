@@ -1,3 +1,1 @@
-pub mod CWalk
 pub mod Telling
-pub mod Tables

@@ -7,7 +7,7 @@ ghost use Rattle.sum.specs.Sum.{sumOf};
 ghost use Rattle.octets.specs.Stores.{put};
 ghost use Rattle.frame.specs.Answers.{tableBy, timestampBy};
 ghost use Rattle.walker.specs.Advance.{itemOf};
-ghost use Rattle.controller.specs.Boundary.{Limited};
+ghost use Rattle.walks.specs.WalkCalls.{Limited};
 ghost use Rattle.entries.specs.Entered.{entryIn, entriesTo, fieldsIn, Entered};
 ghost use Rattle.entries.specs.Numbered.{tenBytes, itemBytes};
 use frame::Fields;

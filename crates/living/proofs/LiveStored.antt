@@ -1,48 +1,51 @@
 -- What the export leaves in the walk's bytes, and its refusals.
 -- Assumes nothing.
-use mathlib.Core.Bool.{Bool, true, false, _&&_}
-use mathlib.Core.List.{List, [], _∷_, _++_}
-use mathlib.Core.Path.{_≡_, refl, sym, ap₂, _∙_}
-use Prim.Native.Nat.{ℕ, _+_, _/_, _%_, _≤_, _<_}
-use native.Mathlib.Decide.{decLe}
+use mathlib.Core.Bool.{Bool, true, false}
+use mathlib.Core.List.{List}
+use mathlib.Core.Path.{_≡_, sym, ap, _∙_}
+use Prim.Native.Nat.{ℕ, _+_, _≤_, _<_}
 use native.Mathlib.Omega.{arith}
+use lib.Dec.{ltb}
 use lib.ListN.{length, getD}
 use borrow.Author.Tests.{lt-ltb, le-ltb}
 use Rattle.octets.specs.Stores.{put}
-use Rattle.octets.specs.Words.{split, bytes8}
-use Rattle.octets.specs.Choice.{pick}
-use Rattle.octets.proofs.Storing.{alone}
+use Rattle.octets.proofs.Storing.{put-all}
 use Rattle.frame.specs.Answers.{digit}
 use Rattle.walk.specs.declared.State.{State}
-use Rattle.controller.proofs.Tables.{digit-alone, kind-alone, walk-stored}
-use Rattle.controller.proofs.Telling.{few-misses}
-use Rattle.walk.specs.Records.{stepAt}
-use Rattle.walk.proofs.Limits.{limit-kept}
+use Rattle.walk.specs.Records.{limitRefusalOf}
+use Rattle.block.specs.WalkBytes.{toldBytes}
 use Rattle.live.specs.declared.Told.{Told}
-use Rattle.live.specs.declared.Told.the-variants.{Got, More}
-use Rattle.live.specs.Live.{atStart, later, laterStep, isDone, wants, spare, overAt, telling, tellingAt, waiting, waitingAt, far, liveAt}
-use Rattle.live.proofs.LiveParts.{far-step, near-step}
-use Rattle.living.specs.LiveBytes.{toldKind, toldNumber, toldPlace, liveBytes, liveRefusalOf}
+use Rattle.live.specs.Live.{placedAt, later, wants, waiting, waitingAt, far, liveAt}
+use Rattle.live.proofs.LiveParts.{wants-hunting, wants-lock, wants-now, live-now, lock-waits, hunt-waits}
+use Rattle.living.specs.LiveBytes.{liveBytes, heldBy, liveRefusalOf}
 
-told-alone : (t : Told) → toldKind t / 1 % 256 ≡ toldKind t
-told-alone (Got x) = kind-alone x
-told-alone (More p) = refl
+-- ---- more bytes wanted with no place looked at
+pub told-false : (A : Type 0) → false ≡ true → A
+told-false A e = let z : _≡_ {A = ℕ} 0 1 = ap digit e in absurd (omega arith)
 
-pub live-stored : (t : Told) (s : State) (l a b d : List ℕ) (lock kind number place : ℕ) → length l ≡ 21 → s .position .misses ≤ 255 → s .limit ≤ 255
-    → lock ≡ digit (s .position .lock) → kind ≡ toldKind t → (number ≡ toldNumber t) × (number < 256) → place ≡ toldPlace t
-    → a ≡ put l 0 (split bytes8 (s .position .place))
-    → b ≡ put a 8 (s .position .misses ∷ lock ∷ s .limit ∷ kind ∷ number ∷ [])
-    → d ≡ put b 13 (split bytes8 place)
-    → d ≡ liveBytes t s
-unfolding liveBytes
-live-stored t s l a b d lock kind number place o m n el ek (en, small) ep pa pb pd =
-    let one : s .position .misses ≡ s .position .misses / 1 % 256 = sym (alone (s .position .misses) (omega arith)) in
-    let two : lock ≡ digit (s .position .lock) / 1 % 256 = el ∙ sym (digit-alone (s .position .lock)) in
-    let three : s .limit ≡ s .limit / 1 % 256 = sym (alone (s .limit) (omega arith)) in
-    let four : kind ≡ toldKind t / 1 % 256 = ek ∙ sym (told-alone t) in
-    let five : number ≡ toldNumber t / 1 % 256 = en ∙ sym (alone (toldNumber t) (rw (← en) small)) in
-    walk-stored l a b d (s .position .place) place _ o refl pa pb pd
-    ∙ ap₂ (λ (ms : List ℕ) (p : ℕ). (split bytes8 (s .position .place) ++ ms) ++ split bytes8 p) (λ i. one i ∷ two i ∷ three i ∷ four i ∷ five i ∷ []) ep
+module _ (s : State) (n : ℕ) (more : Bool) (near : s .position .place + n < far) (asked : more ≡ true) (k : ℕ) (e : k ≡ limitRefusalOf (s .limit)) (z : k ≡ 0) (w : List ℕ) (whole : length w ≡ n) where
+  now-is : wants more (s .limit) (s .position .misses) (s .position .lock) ≡ true → waitingAt 0 s ≡ liveAt w true s → liveAt w more s ≡ waitingAt 0 s
+  now-is m p = sym (p ∙ live-now w more s m)
+
+  pub hunting-waits : s .position .lock ≡ false → n < 12288 → liveAt w more s ≡ waitingAt 0 s
+  hunting-waits l h =
+      let m = sym (wants-hunting more (s .limit) (s .position .misses) (s .position .lock) k e asked z l) in
+      now-is m (hunt-waits w s (record { near = omega arith; wanted = wants-now more _ _ _ m; hunting = l }) (omega arith))
+
+  pub locked-waits : s .position .lock ≡ true → n < 6144 → ltb (s .position .misses) (s .limit) ≡ true → liveAt w more s ≡ waitingAt 0 s
+  locked-waits l h few =
+      let m = sym (wants-lock more (s .limit) (s .position .misses) (s .position .lock) k e asked z l) ∙ few in
+      now-is m (lock-waits w s (record { near = omega arith; wanted = wants-now more _ _ _ m; locked = l }) (omega arith))
+
+pub waiting-left : (l a : List ℕ) (s : State) → length l ≡ 21 → a ≡ put l 0 (toldBytes s 4 0 (s .position .place)) → a ≡ heldBy (waitingAt 0 s)
+unfolding liveBytes toldBytes waitingAt waiting later
+waiting-left l a s o p =
+    let e : s .position .place ≡ 0 + s .position .place = omega arith in
+    p ∙ put-all l _ (sym o) ∙ ap (λ (q : ℕ). toldBytes (placedAt q s) 4 0 q) e
+
+pub live-left : (l a : List ℕ) (t : Told) (s : State) → length l ≡ 21 → a ≡ put l 0 (liveBytes t s) → a ≡ liveBytes t s
+unfolding liveBytes toldBytes
+live-left l a t s o p = p ∙ put-all l _ (sym o)
 
 -- ---- the refusals
 module _ (more : ℕ) (w : List ℕ) where
@@ -57,26 +60,3 @@ module _ (more : ℕ) (w : List ℕ) where
   pub both-fit : getD w 9 0 ≤ 1 → more ≤ 1 → 0 ≡ liveRefusalOf more w
   unfolding liveRefusalOf
   both-fit l h = rw (le-ltb 1 (getD w 9 0) l, le-ltb 1 more h)
-
--- ---- misses and limit stay bytes
-module _ (w : List ℕ) (more : Bool) (s : State) where
-  -- what holds of the walk, and of the walk's own step from the window's beginning, holds of the step
-  by-live : (Q : State → Type 0) → ((d : ℕ) → Q (later d s)) → ((d : ℕ) → Q (later d (stepAt w (atStart s) .walk))) → Q s → Q (liveAt w more s .walk)
-  unfolding overAt waiting waitingAt telling tellingAt laterStep
-  by-live Q f g h = go (decLe far (s .position .place + length w))
-    where
-      near : (b : Bool) → Q (pick b (waitingAt (spare w (s .position .lock)) s) (tellingAt (s .position .place) (stepAt w (atStart s))) .walk)
-      near true = f (spare w (s .position .lock))
-      near false = g (s .position .place)
-
-      go : Dec (far ≤ s .position .place + length w) → Q (liveAt w more s .walk)
-      go (yes l) = rw (← far-step w more s l) h
-      go (no l) = rw (near-step w more s (omega arith)) (near (isDone (stepAt w (atStart s) .item) && wants more (s .limit) (s .position .misses) (s .position .lock)))
-
-  pub few-live : s .position .misses ≤ 255 → liveAt w more s .walk .position .misses ≤ 255
-  unfolding later
-  few-live h = by-live (λ t. t .position .misses ≤ 255) (λ d. h) (λ d. few-misses w (atStart s) h) h
-
-  pub limit-live : s .limit ≤ 255 → liveAt w more s .walk .limit ≤ 255
-  unfolding later
-  limit-live h = by-live (λ t. t .limit ≤ 255) (λ d. h) (λ d. rw (limit-kept w (atStart s)) h) h

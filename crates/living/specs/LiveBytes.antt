@@ -1,14 +1,13 @@
 -- The walk's bytes after a step over a live line, as docs/BOUNDARY.md lays them out.
 -- Assumes nothing.
-use mathlib.Core.List.{List, [], _∷_, _++_}
+use mathlib.Core.List.{List, [], _∷_}
 use Prim.Native.Nat.{ℕ}
 use lib.Dec.{eqb, ltb}
 use lib.ListN.{getD}
 use Rattle.frame.specs.Rules.{_when_, first}
-use Rattle.frame.specs.Answers.{digit}
 use Rattle.walk.specs.declared.State.{State}
 use Rattle.walk.specs.ItemValues.{kindOf, placeOf, numberOf}
-use Rattle.controller.specs.Boundary.{encode, marksCounts, stateIn}
+use Rattle.block.specs.WalkBytes.{toldBytes, stateIn}
 use Rattle.live.specs.declared.LiveStep.{LiveStep}
 use Rattle.live.specs.declared.Told.{Told}
 use Rattle.live.specs.declared.Told.the-variants.{Got, More}
@@ -31,12 +30,9 @@ abbrev pub toldPlace : Told → ℕ
 toldPlace (Got x) = placeOf x
 toldPlace (More p) = p
 
--- a walk's 21 bytes, as `stepBytes` of the boundary has them: its place, the marks, and the place of what is told
+-- a walk's 21 bytes, as of every walk
 unfoldable pub liveBytes : Told → State → List ℕ
-liveBytes t s =
-    encode (8 ∷ []) (s .position .place ∷ [])
-    ++ encode marksCounts (s .position .misses ∷ digit (s .position .lock) ∷ s .limit ∷ toldKind t ∷ toldNumber t ∷ [])
-    ++ encode (8 ∷ []) (toldPlace t ∷ [])
+liveBytes t s = toldBytes s (toldKind t) (toldNumber t) (toldPlace t)
 
 abbrev pub heldBy : LiveStep → List ℕ
 heldBy r = liveBytes (r .told) (r .walk)

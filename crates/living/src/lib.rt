@@ -1,73 +1,57 @@
 // The walk over a live line, on byte slices, for C.
-ghost use mathlib.Core.List.{[], _∷_};
+ghost use mathlib.Core.Bool.{true};
+ghost use mathlib.Core.List.{List};
 ghost use mathlib.Core.Path.{_≡_};
-ghost use Prim.Native.Nat.{_≤_, _<_};
+ghost use Prim.Native.Nat.{ℕ};
 ghost use lib.ListN.{length};
 ghost use Rattle.octets.specs.Stores.{put};
 ghost use Rattle.controller.specs.Boundary;
-ghost use Rattle.living.specs.LiveBytes.{toldKind, toldNumber, toldPlace, liveBytes, liveRefusalOf, lineOf};
+ghost use Rattle.live.specs.Live.{liveAt, waitingAt};
+ghost use Rattle.living.specs.LiveBytes.{liveBytes, liveRefusalOf, lineOf};
 use live::Told;
 use walk::State;
 
-fn kind(told: Told) -> u8
-    ensures { λ r. ⌜ r ≡ toldKind told ⌝ }
-{
-    match told {
-        Told::Got(item) => controller::kind(item),
-        Told::More(_) => 4,
-    }
-}
+// No place of a line is beyond 2^63.
+const FAR: usize = 0x8000000000000000;
 
-fn number(told: Told) -> u8
-    ensures { λ r. ⌜ (r ≡ toldNumber told) × (r < 256) ⌝ }
+// Whether more bytes are wanted with no place looked at: the walk goes on with them, and of the n that are there in lock a period is not whole, hunting two are not. It may
+// err to one side, and is here for time alone: most calls over short pieces end with it.
+fn waits(state: State, n: usize, more: bool) -> bool
+    ensures { λ r. ⌜ (r ≡ true → (w : List ℕ) → length w ≡ n → liveAt w more state ≡ waitingAt 0 state) ⌝ }
 {
-    match told {
-        Told::Got(item) => controller::number(item),
-        Told::More(_) => 0,
+    let limit = state.limit;
+    let place = state.position.place;
+    let misses = state.position.misses;
+    let lock = state.position.lock;
+    if n >= 12288 {
+        return false;
     }
-}
-
-fn place(told: Told) -> usize
-    ensures { λ r. ⌜ r ≡ toldPlace told ⌝ }
-{
-    match told {
-        Told::Got(item) => controller::place(item),
-        Told::More(q) => q,
+    if place >= FAR - n {
+        return false;
     }
-}
-
-// Misses, lock and limit, and the kind and refusal number of what is told, from byte 8 on.
-fn put_marks(out: &mut [u8], misses: u8, lock: u8, limit: u8, kind: u8, number: u8)
-    requires { ⌜ length (now out) ≡ 21 ⌝ }
-    ensures { λ _. ⌜ now (out .exit) ≡ put (now (out .entry)) 8 (misses ∷ lock ∷ limit ∷ kind ∷ number ∷ []) ⌝ }
-{
-    out[8] = misses;
-    out[9] = lock;
-    out[10] = limit;
-    out[11] = kind;
-    out[12] = number;
+    if !more {
+        return false;
+    }
+    if walk::limit_refusal(limit) != 0 {
+        return false;
+    }
+    if !lock {
+        return true;
+    }
+    if n >= 6144 {
+        return false;
+    }
+    misses < limit
 }
 
 // The advanced walk in eleven bytes, and what is told in ten.
-fn put_live(out: &mut [u8], told: Told, walk: State)
-    requires { ⌜ (length (now out) ≡ 21) × (walk .position .misses ≤ 255) × (walk .limit ≤ 255) ⌝ }
-    ensures { λ _. ⌜ now (out .exit) ≡ liveBytes told walk ⌝ }
+fn put_live(out: &mut [u8], walk: State, told: Told)
+    ensures { λ _. ⌜ now (out .exit) ≡ put (now (out .entry)) 0 (liveBytes told walk) ⌝ }
 {
-    let at = place(told);
-    let kind = kind(told);
-    let number = number(told);
-    let position = walk.position;
-    let lock = meaning::bit(position.lock);
-    putting::put8(out, 0, position.place);
-    put_marks(
-        out,
-        position.misses as u8,
-        lock,
-        walk.limit as u8,
-        kind,
-        number,
-    );
-    putting::put8(out, 13, at);
+    match told {
+        Told::Got(item) => block::put_item(out, walk, item),
+        Told::More(q) => block::put_told(out, walk, 4, 0, q),
+    }
 }
 
 // A step of the walk whose state is in the lent bytes over the line's bytes from its place on, as many as are there; `more` is 0 once the line has ended, and 1 before. 1 for walk's
@@ -85,10 +69,15 @@ pub extern "C" fn spindlewren_live(window: &[u8], more: u8, walk: &mut [u8]) -> 
     if more > 1 {
         return 12;
     }
-    let state = controller::state_in(walk);
+    let state = block::state_in(walk);
+    if waits(state, window.len(), more == 1) {
+        let place = state.position.place;
+        block::put_told(walk, state, 4, 0, place);
+        return 0;
+    }
     let step = live::step(state, window, more == 1);
     let told = step.told;
     let next = step.walk;
-    put_live(walk, told, next);
+    put_live(walk, next, told);
     0
 }

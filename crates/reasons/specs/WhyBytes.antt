@@ -8,7 +8,7 @@ use lib.Dec.{eqb, ltb}
 use lib.ListN.{length}
 use Rattle.frame.specs.Rules.{_when_, first}
 use Rattle.walk.specs.Records.{allowed}
-use Rattle.controller.specs.Boundary.{encode}
+use Rattle.encoded.specs.AnswerBytes.{encode}
 use Rattle.why.specs.declared.Reason.{Reason}
 use Rattle.why.specs.Why.{Applies, reasonNumber, refusalGiven, placeGiven}
 

@@ -2,7 +2,7 @@
 -- Assumes nothing.
 use Prim.Native.Nat.{ℕ}
 use mathlib.Core.List.{List, [], _∷_}
-use Rattle.controller.specs.Boundary.{encode}
+use Rattle.encoded.specs.AnswerBytes.{encode}
 use Rattle.looks.specs.Testing.{testsOf}
 
 -- the count in eight bytes, high byte first

@@ -1,7 +1,7 @@
 // How many times a walk puts the acceptance test to a place, for C: the number by which a card's processor is sized.
 ghost use mathlib.Core.Path.{_≡_};
 ghost use Rattle.walk.specs.Records.{limitRefusalOf};
-ghost use Rattle.controller.specs.Boundary.{Limited};
+ghost use Rattle.walks.specs.WalkCalls.{Limited};
 ghost use Rattle.looks.specs.Testing.{testsOf};
 ghost use Rattle.sizing.specs.CountBytes.{countBytes};
 use looks::Counted;

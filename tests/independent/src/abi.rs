@@ -36,6 +36,7 @@ pub const MORE_ITEM: u8 = 4;
 #[link(name = "sizing", kind = "static")]
 #[link(name = "profiles", kind = "static")]
 #[link(name = "signals", kind = "static")]
+#[link(name = "walks", kind = "static")]
 extern "C" {
     fn spindlewren_read(
         frame: *const u8,

@@ -1,6 +1,6 @@
 use mathlib.Core.Path.{ap, _∙_}
 use Rattle.entries.specs.Numbered.{itemBytes}
-use Rattle.controller.proofs.Telling.{limit-refused, limited-length, limited-given}
+use Rattle.walks.proofs.WalkTelling.{limit-refused, limited-length, limited-given}
 use borrow.Author.Needs.{needs}
 use Rattle.entries.proofs.spindlewren_nth.Statement.{statement}
 use Rattle.entries.proofs.spindlewren_nth.Tie as tie

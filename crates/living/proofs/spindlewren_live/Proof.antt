@@ -1,6 +1,6 @@
 use Rattle.controller.proofs.Telling.{wrong-length, told-refused, told-given}
-use Rattle.living.proofs.LiveStored.{lock-wide, more-wide, both-fit, few-live, limit-live}
-use mathlib.Core.Path.{refl, ap, _∙_}
+use Rattle.living.proofs.LiveStored.{waiting-left, live-left, lock-wide, more-wide, both-fit}
+use mathlib.Core.Path.{refl, sym, ap, _∙_}
 use native.Mathlib.Omega.{arith}
 use lib.Dec.{eqb}
 use Rattle.live.specs.Live.{liveAt}
@@ -18,19 +18,23 @@ returns-2 c = told-refused 21 _ _ _ (search needs) 12 (lock-wide _ _ (c .if2 .ta
 returns-3 : tie.Need-returns-3
 returns-3 c = told-refused 21 _ _ _ (search needs) 12 (more-wide _ _ (c .before .if2 .left) (c .if3 .taken)) (λ z. omega arith)
 
-put-live-requires : tie.Need-put-live-requires
-put-live-requires c κs = (
-  search needs,
-  rw (c .before .before .step .ensures) (few-live _ _ _ (c .before .before .before .state-in .ensures .1)),
-  rw (c .before .before .step .ensures) (limit-live _ _ _ (c .before .before .before .state-in .ensures .2)),
-)
-
 returns-4 : tie.Need-returns-4
 returns-4 c =
+    let short = c .before .before .before .before in
+    let at = short .before .before in
+    let start = at .before .before .before .before .before .before .before .before in
+    let window = start .args .window .now in
+    told-given 21 _ _ _ (search needs) 0 (both-fit _ _ (at .before .before .before .if2 .left) (at .before .before .if3 .left)) refl _
+    (waiting-left _ _ _ (search needs) (c .before .before .put-told .ensures)
+    ∙ ap heldBy (sym (short .before .waits .ensures (short .if4 .taken) window refl) ∙ ap (liveAt window (eqb (start .args .more) 1)) (at .state-in .ensures)))
+
+returns-5 : tie.Need-returns-5
+returns-5 c =
     let at = c .before .before .before .before .before in
-    let start = at .before .before .before .before .before .before .before .before .before in
-    told-given 21 _ _ _ (search needs) 0 (both-fit _ _ (at .before .before .before .before .if2 .left) (at .before .before .before .if3 .left)) refl _
-    (c .before .before .put-live .ensures ∙ ap heldBy (at .step .ensures ∙ ap (liveAt (start .args .window .now) (eqb (start .args .more) 1)) (at .before .state-in .ensures .0)))
+    let read = at .before .before .before in
+    let start = read .before .before .before .before .before .before .before .before in
+    told-given 21 _ _ _ (search needs) 0 (both-fit _ _ (read .before .before .before .if2 .left) (read .before .before .if3 .left)) refl _
+    (live-left _ _ _ _ (search needs) (c .before .before .put-live .ensures) ∙ ap heldBy (at .step .ensures ∙ ap (liveAt (start .args .window .now) (eqb (start .args .more) 1)) (read .state-in .ensures)))
 
 pub spindlewren-live-spec : {M : Type 1} → statement M
 spindlewren-live-spec =
@@ -42,6 +46,10 @@ spindlewren-live-spec =
     returns-3
     (λ c κs. search needs)
     (λ c κs. search needs)
-    put-live-requires
+    (λ c κs. search needs)
     (λ c. search needs)
-    returns-4)
+    returns-4
+    (λ c κs. search needs)
+    (λ c κs. search needs)
+    (λ c. search needs)
+    returns-5)

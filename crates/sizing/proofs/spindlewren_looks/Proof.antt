@@ -1,6 +1,6 @@
 use mathlib.Core.Path.{sym, _∙_}
 use borrow.Author.Needs.{needs}
-use Rattle.controller.proofs.Telling.{limit-refused, limited-length, limited-given}
+use Rattle.walks.proofs.WalkTelling.{limit-refused, limited-length, limited-given}
 use Rattle.sizing.proofs.Counts.{stored}
 use Rattle.sizing.proofs.spindlewren_looks.Statement.{statement}
 use Rattle.sizing.proofs.spindlewren_looks.Tie as tie

@@ -1,0 +1,2 @@
+pub mod CWalk
+pub mod WalkTelling
