@@ -23,7 +23,6 @@ use Rattle.frame.proofs.Accepting.{acceptable}
 use Rattle.frame.proofs.Fixed.{reading-fixed}
 use Rattle.trips.proofs.Alike.{accepted-alike, read-alike, main-alike, fic-alike, stream-alike}
 use Rattle.trips.proofs.Pieces.{sync-word}
-use Rattle.array.specs.Listed.{list}
 use Rattle.array.specs.CodingArray.{widthOf, carried, lent, Parts}
 use Rattle.array.specs.OutputArray.{outputOf, partsOf}
 use Rattle.array.specs.PartLengths.{refusalBeside}
