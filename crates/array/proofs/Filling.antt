@@ -1,6 +1,6 @@
 -- Lists given by what stands at each place: their lengths, their elements, and the turns of a loop that stores one after the other.
 -- Assumes nothing.
-use mathlib.Core.Path.{_≡_, refl, sym, ap, ap₂, _∙_}
+use mathlib.Core.Path.{_≡_, refl, sym, ap, ap₂, subst, _∙_}
 use mathlib.Core.List.{List, [], _∷_, _++_}
 use mathlib.Core.Logic.{⊎-elim}
 use Prim.Native.Nat.{ℕ, zero, suc, _+_, _<_, _≤_}
@@ -9,6 +9,8 @@ use native.Mathlib.Numerals.{add-one}
 use native.Mathlib.Omega.{arith}
 use lib.ListN.{length, getD, set, length-append, length-set, List·getD-append}
 use lib.Seq.{getD-at, getD-set-same, getD-set-other, ext-getD}
+use Rattle.octets.specs.Stores.{put}
+use Rattle.octets.proofs.Storing.{put-none, put-more}
 use Rattle.array.specs.Listed.{list}
 
 module _ {A : Type 0} (f : ℕ → A) where
@@ -67,3 +69,22 @@ module _ {A : Type 0} (f : ℕ → A) (d : A) (n : ℕ) (xs : List A) where
   pub filled-all : (k : ℕ) → Filled f d n xs k → n ≤ k → xs ≡ list f n
   filled-all k F h =
       list-eq f d xs (λ m l. F .holds m (omega (arith, rw (F .size) at l))) ∙ ap (list f) (F .size)
+
+-- a list put into others, element by element
+module _ (g : ℕ → ℕ) (xs : List ℕ) (at : ℕ) where
+  pub one-more : (k : ℕ) → at + k < length xs → set (put xs at (list g k)) (at + k) (g k) ≡ put xs at (list g (k + 1))
+  one-more k h =
+      rw (add-one k)
+      (ap (λ (n : ℕ). set (put xs at (list g k)) (at + n) (g k)) (sym (list-length g k))
+      ∙ put-more xs at (list g k) (g k) (rw (list-length g k) h))
+
+  -- as a run of stores
+  pub filled-run : (f : ℕ → ℕ) (n k to : ℕ) → Filled f 0 n xs at → at + k ≤ n → ((m : ℕ) → m < k → g m ≡ f (at + m)) → to ≡ at + k → Filled f 0 n (put xs at (list g k)) to
+  filled-run f n zero to F h e q =
+      let z : to ≡ at = omega arith in
+      rw z (subst (λ (l : List ℕ). Filled f 0 n l at) (put-none xs at (omega (arith, F .size))) F)
+  filled-run f n (suc k) to F h e q =
+      let l = filled-run f n k (at + k) F (omega arith) (λ m b. e m (omega arith)) refl in
+      let z : to ≡ at + k + 1 = omega arith in
+      let s : set (put xs at (list g k)) (at + k) (g k) ≡ put xs at (list g (suc k)) = one-more k (omega (arith, F .size)) ∙ ap (λ (i : ℕ). put xs at (list g i)) (add-one k) in
+      rw z (subst (λ (l : List ℕ). Filled f 0 n l (at + k + 1)) s (filled-more f 0 n (put xs at (list g k)) (at + k) (g k) l (omega arith) (e k (omega arith))))

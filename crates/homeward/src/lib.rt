@@ -1,110 +1,117 @@
-// The way back of clause 8.4: the parts of an output array, by way of the coding array. No byte is judged.
+// The way back of clause 8.4: the parts of an output array, by way of the interleaving array. No byte is judged.
+ghost use mathlib.Core.List.{List};
 ghost use mathlib.Core.Path.{_≡_};
-ghost use Prim.Native.Nat.{_-_, _*_, _<_};
+ghost use Prim.Native.Nat.{ℕ, _+_, _-_, _*_, _<_};
 ghost use lib.ListN.{length};
-ghost use Rattle.array.specs.CodingArray.{widthOf, Wide, carried, lent, rowOf, columnOf, informationOf, blocksOf, checkOf};
-ghost use Rattle.array.specs.OutputArray.{place, arrayRow, arrayOf, gBytesOf};
-ghost use Rattle.homeward.specs.BackClauses.{Room, HandsOut};
+ghost use Rattle.octets.specs.Stores.{put};
+ghost use Rattle.array.specs.Listed.{list};
+ghost use Rattle.array.specs.CodingArray.{widthOf, Wide, superblock, carried, lent};
+ghost use Rattle.array.specs.OutputArray.{interleaved, gBytesOf};
+ghost use Rattle.homeward.specs.BackClauses.{stepped, Reaches, interleavingOf, cell, byteOf, blockOf, checkByteOf, Out, NextRow, Room, HandsOut};
 ghost use Rattle.homeward.specs.WayBack.{Returns};
 ghost use Rattle.homeward.specs.RowsClean.{cleanRow, cleanRows, TellsRows};
 
-// The place of row i, column j in the output array.
-fn place_of(i: usize, j: usize) -> usize
-    requires { ⌜ (i < 24) × (j < 240) ⌝ }
-    ensures { λ r. ⌜ r ≡ place i j ⌝ }
+// Bytes that stand a step apart, n of them, into out from at on.
+fn put_each(x: &[u8], first: usize, step: usize, n: usize, out: &mut [u8], at: usize)
+    requires { ⌜ Reaches (now x) (now out) first step n at ⌝ }
+    ensures { λ _. ⌜ now (out .exit) ≡ put (now (out .entry)) at (stepped (now (x .entry)) first step n) ⌝ }
 {
-    let p = 1920 * (i / 8) + 8 * j + i % 8;
-    p + p / 15 + 1
-}
-
-fn array_row(output: &[u8], i: usize) -> [u8; 240]
-    requires { ⌜ (length (now output) ≡ 6144) × (i < 24) ⌝ }
-    ensures { λ r. ⌜ r ≡ arrayRow (now (output .entry)) i ⌝ }
-{
-    let mut row = [0u8; 240];
-    let mut j = 0;
-    while j < 240 {
-        row[j] = output[place_of(i, j)];
-        j += 1;
+    let mut m = 0;
+    while m < n {
+        out[at + m] = x[first + step * m];
+        m += 1;
     }
-    row
 }
 
-// The coding array of an output array.
-fn array_of(output: &[u8]) -> [[u8; 240]; 24]
+// The interleaving array: each line of sixteen bytes without its first, which is one of G.704.
+fn interleaving(output: &[u8]) -> [u8; 5760]
     requires { ⌜ length (now output) ≡ 6144 ⌝ }
-    ensures { λ r. ⌜ r ≡ arrayOf (now (output .entry)) ⌝ }
+    ensures { λ r. ⌜ r ≡ interleavingOf (now (output .entry)) ⌝ }
 {
-    let empty = [0u8; 240];
-    let mut array = [empty; 24];
-    let mut i = 0;
-    while i < 24 {
-        array[i] = array_row(output, i);
-        i += 1;
+    let mut array = [0u8; 5760];
+    let mut line = 0;
+    while line < 384 {
+        put_each(output, 16 * line + 1, 1, 15, &mut array, 15 * line);
+        line += 1;
     }
     array
 }
 
-// The row of information byte n.
-fn row_of(w: usize, n: usize) -> usize
-    requires { ⌜ (Wide w) × (n < carried w) ⌝ }
-    ensures { λ r. ⌜ r ≡ rowOf w n ⌝ }
+// The index of row i, column j in it.
+fn interleaved(i: usize, j: usize) -> usize
+    requires { ⌜ (i < 24) × (j < 240) ⌝ }
+    ensures { λ r. ⌜ r ≡ interleaved i j ⌝ }
 {
-    let superblock = w * 8 - 16;
-    let t = n % superblock;
-    if t < 2 * (w - 8) {
-        return n / superblock * 8 + t / (w - 8);
-    }
-    n / superblock * 8 + (t + 16) / w
+    1920 * (i / 8) + 8 * j + i % 8
 }
 
-// Its column.
-fn column_of(w: usize, n: usize) -> usize
-    requires { ⌜ (Wide w) × (n < carried w) ⌝ }
-    ensures { λ r. ⌜ r ≡ columnOf w n ⌝ }
+// The information bytes of a first or second row of a superblock: the columns 0, 30, .. are left out.
+fn put_upper_row(array: &[u8], w: usize, i: usize, out: &mut [u8], at: usize)
+    requires { ⌜ NextRow w i at (now array) (now out) ⌝ }
+    ensures { λ _. ⌜ Out w (now (array .entry)) (now (out .exit)) (at + (w - 8)) ⌝ }
 {
-    let t = n % (w * 8 - 16);
-    if t < 2 * (w - 8) {
-        let u = t % (w - 8);
-        return u + u / 29 + 1;
+    let mut b = 0;
+    while b < 7 {
+        put_each(array, interleaved(i, 30 * b + 1), 8, 29, out, at + 29 * b);
+        b += 1;
     }
-    (t + 16) % w
+    put_each(array, interleaved(i, 211), 8, w - 211, out, at + 203);
 }
 
-fn put_information(array: [[u8; 240]; 24], w: usize, out: &mut [u8])
-    requires { ⌜ (Wide w) × (length (now out) ≡ carried w) ⌝ }
-    ensures { λ _. ⌜ now (out .exit) ≡ informationOf w array ⌝ }
+// The information bytes of superblock s.
+fn put_superblock(array: &[u8], w: usize, s: usize, out: &mut [u8])
+    requires { ⌜ (Wide w) × (length (now array) ≡ 5760) × (s < 3) × (Out w (now array) (now out) (s * superblock w)) ⌝ }
+    ensures { λ _. ⌜ Out w (now (array .entry)) (now (out .exit)) ((s + 1) * superblock w) ⌝ }
 {
-    let mut n = 0;
-    while n < out.len() {
-        let i = row_of(w, n);
-        let j = column_of(w, n);
-        out[n] = array[i][j];
-        n += 1;
+    let start = s * (w * 8 - 16);
+    put_upper_row(array, w, 8 * s, out, start);
+    put_upper_row(array, w, 8 * s + 1, out, start + (w - 8));
+    let mut k = 2;
+    while k < 8 {
+        put_each(
+            array,
+            interleaved(8 * s + k, 0),
+            8,
+            w,
+            out,
+            start + k * w - 16,
+        );
+        k += 1;
+    }
+}
+
+fn put_information(array: &[u8], w: usize, out: &mut [u8])
+    requires { ⌜ (Wide w) × (length (now array) ≡ 5760) × (length (now out) ≡ carried w) ⌝ }
+    ensures { λ _. ⌜ now (out .exit) ≡ list (byteOf w (now (array .entry))) (carried w) ⌝ }
+{
+    let mut s = 0;
+    while s < 3 {
+        put_superblock(array, w, s, out);
+        s += 1;
     }
 }
 
 // The management bytes, where first is 0, or the supervision bytes, where it is 1.
-fn put_blocks(array: [[u8; 240]; 24], first: usize, out: &mut [u8])
-    requires { ⌜ (first < 2) × (length (now out) ≡ 24) ⌝ }
-    ensures { λ _. ⌜ now (out .exit) ≡ blocksOf first array ⌝ }
+fn put_blocks(array: &[u8], first: usize, out: &mut [u8])
+    requires { ⌜ (length (now array) ≡ 5760) × (first < 2) × (length (now out) ≡ 24) ⌝ }
+    ensures { λ _. ⌜ now (out .exit) ≡ list (blockOf first (now (array .entry))) 24 ⌝ }
 {
-    let mut n = 0;
-    while n < out.len() {
-        out[n] = array[n / 8 * 8 + first][n % 8 * 30];
-        n += 1;
+    let mut s = 0;
+    while s < 3 {
+        put_each(array, 1920 * s + first, 240, 8, out, 8 * s);
+        s += 1;
     }
 }
 
-fn put_check(array: [[u8; 240]; 24], w: usize, out: &mut [u8])
-    requires { ⌜ (Wide w) × (w < 240) × (length (now out) ≡ 24 * (240 - w)) ⌝ }
-    ensures { λ _. ⌜ now (out .exit) ≡ checkOf w array ⌝ }
+fn put_check(array: &[u8], w: usize, out: &mut [u8])
+    requires { ⌜ (Wide w) × (w < 240) × (length (now array) ≡ 5760) × (length (now out) ≡ 24 * (240 - w)) ⌝ }
+    ensures { λ _. ⌜ now (out .exit) ≡ list (checkByteOf w (now (array .entry))) (24 * (240 - w)) ⌝ }
 {
     let r = 240 - w;
-    let mut n = 0;
-    while n < out.len() {
-        out[n] = array[n / r][w + n % r];
-        n += 1;
+    let mut i = 0;
+    while i < 24 {
+        put_each(array, interleaved(i, w), 8, r, out, i * r);
+        i += 1;
     }
 }
 
@@ -113,24 +120,20 @@ fn put_g_bytes(output: &[u8], first: usize, out: &mut [u8])
     requires { ⌜ (length (now output) ≡ 6144) × (first < 32) × (length (now out) ≡ 192) ⌝ }
     ensures { λ _. ⌜ now (out .exit) ≡ gBytesOf first (now (output .entry)) ⌝ }
 {
-    let mut n = 0;
-    while n < out.len() {
-        out[n] = output[32 * n + first];
-        n += 1;
-    }
+    put_each(output, first, 32, 192, out, 0);
 }
 
 // The parts that the coding array holds.
 fn put_parts(
-    array: [[u8; 240]; 24],
+    array: &[u8],
     w: usize,
     information: &mut [u8],
     management: &mut [u8],
     supervision: &mut [u8],
     check: &mut [u8],
 )
-    requires { ⌜ Room w (now information) (now management) (now supervision) (now check) ⌝ }
-    ensures { λ _. ⌜ HandsOut w array (now (information .exit)) (now (management .exit)) (now (supervision .exit)) (now (check .exit)) ⌝ }
+    requires { ⌜ Room w (now array) (now information) (now management) (now supervision) (now check) ⌝ }
+    ensures { λ _. ⌜ HandsOut w (now (array .entry)) (now (information .exit)) (now (management .exit)) (now (supervision .exit)) (now (check .exit)) ⌝ }
 {
     put_information(array, w, information);
     put_blocks(array, 0, management);
@@ -170,7 +173,7 @@ pub fn back(
     put_g_bytes(output, 0, synchronising);
     put_g_bytes(output, 16, signalling);
     put_parts(
-        array_of(output),
+        &interleaving(output),
         w,
         information,
         management,
@@ -180,12 +183,22 @@ pub fn back(
     0
 }
 
-// 1 where row i of the coding array is clean, else 0.
-fn clean_row(output: &[u8], fourteen: bool, i: usize) -> u8
-    requires { ⌜ (length (now output) ≡ 6144) × (i < 24) ⌝ }
-    ensures { λ r. ⌜ r ≡ cleanRow (widthOf fourteen) (now (output .entry)) i ⌝ }
+// Row i of the coding array.
+fn array_row(array: &[u8], i: usize) -> [u8; 240]
+    requires { ⌜ (length (now array) ≡ 5760) × (i < 24) ⌝ }
+    ensures { λ r. ⌜ r ≡ list (cell (now (array .entry)) i) 240 ⌝ }
 {
-    let row = array_row(output, i);
+    let mut row = [0u8; 240];
+    put_each(array, interleaved(i, 0), 8, 240, &mut row, 0);
+    row
+}
+
+// 1 where row i of the coding array is clean, else 0.
+fn clean_row(array: &[u8], fourteen: bool, i: usize) -> u8
+    requires { ⌜ (length (now array) ≡ 5760) × (i < 24) ⌝ }
+    ensures { λ r. ⌜ ((o : List ℕ) → now (array .entry) ≡ interleavingOf o → r ≡ cleanRow (widthOf fourteen) o i) ⌝ }
+{
+    let row = array_row(array, i);
     let tested = code::test_row(&row, 240 - array::width(fourteen));
     if tested.clean {
         return 1;
@@ -197,9 +210,10 @@ fn put_rows(output: &[u8], fourteen: bool, clean: &mut [u8])
     requires { ⌜ (length (now output) ≡ 6144) × (length (now clean) ≡ 24) ⌝ }
     ensures { λ _. ⌜ now (clean .exit) ≡ cleanRows (widthOf fourteen) (now (output .entry)) ⌝ }
 {
+    let array = interleaving(output);
     let mut i = 0;
     while i < clean.len() {
-        clean[i] = clean_row(output, fourteen, i);
+        clean[i] = clean_row(&array, fourteen, i);
         i += 1;
     }
 }

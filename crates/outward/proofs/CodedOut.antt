@@ -1,21 +1,21 @@
 -- Rows with their check bytes.
 -- Assumes nothing.
-use mathlib.Core.Path.{_≡_, refl, sym, ap, ap₂, _∙_}
+use mathlib.Core.Path.{_≡_, refl, sym, ap, _∙_}
 use mathlib.Core.Bool.{Bool, true, false}
 use mathlib.Core.List.{List, [], _∷_, _++_, append-nil}
 use Prim.Native.Nat.{ℕ, _+_, _-_, _*_, _/_, _%_, _<_, _≤_}
 use native.Mathlib.Omega.{arith}
 use borrow.Author.Tests.{lt-ltb}
 use lib.Dec.{lit<, lit≤}
-use lib.ListN.{length, getD, take, drop, length-append}
-use lib.Seq.{length-take-le, drop-length, take-all, getD-take, ext-getD}
+use lib.ListN.{length, getD, take, drop}
+use lib.Seq.{length-take-le, drop-length, getD-take, ext-getD}
 use Rattle.octets.specs.Stores.{put}
 use Rattle.octets.proofs.Storing.{put-room}
 use Rattle.array.specs.Listed.{list}
 use Rattle.array.specs.CodingArray.{widthOf, carried, lent, contents, codingRow, codingArray}
 use Rattle.array.proofs.Cells.{wide}
 use Rattle.array.proofs.Sizes.{six}
-use Rattle.array.proofs.Filling.{list-length, list-at, list-same, list-eq}
+use Rattle.array.proofs.Filling.{list-length, list-at, list-same}
 use Rattle.code.specs.Code.{checkBytes}
 use Rattle.code.specs.CodeAnswers.{checkRefusal, Checks}
 use Rattle.coded.specs.Coded.{informationRow, rowChecks, coded}
@@ -23,13 +23,12 @@ use Rattle.coded.proofs.CodedRows.{coded-row}
 use Rattle.array.specs.PartLengths.{partsRefusal, refusalBeside}
 use Rattle.outward.specs.OutClauses.{Held, inArray, beside, outputBy}
 use Rattle.outward.specs.WayOut.{Sends}
-use Rattle.outward.proofs.Placing.{sent}
+use Rattle.outward.proofs.Placing.{width-most, sent}
 
 -- put at the end, over all that stood there
-pub put-end : (row check : List ℕ) (w k : ℕ) → w + length check ≡ length row → length check ≤ k → put row w (take k check) ≡ take w row ++ check
-put-end row check w k e h =
-    ap (put row w) (take-all k check h)
-    ∙ put-room row w check (omega arith)
+pub put-end : (row check : List ℕ) (w : ℕ) → w + length check ≡ length row → put row w check ≡ take w row ++ check
+put-end row check w e =
+    put-room row w check (omega arith)
     ∙ ap (λ (n : ℕ). take w row ++ check ++ drop n row) e
     ∙ ap (λ (r : List ℕ). take w row ++ check ++ r) (drop-length row)
     ∙ append-nil (take w row ++ check)
@@ -75,7 +74,7 @@ row-coded fourteen b m s r row after i k q h e a =
 -- there is room for the check bytes of either variant
 pub room : (fourteen : Bool) (b m s r : List ℕ) (k : ℕ) → k ≡ widthOf fourteen → length m ≡ 24 → length s ≡ 24 → length r ≡ 336 → Held k (inArray b m s r)
 room fourteen b m s r k q e f g =
-    record { wide = rw q (wide fourteen); management = e; supervision = f; check = rw (q, g) (enough fourteen) }
+    record { wide = rw q (wide fourteen); most = rw q (width-most fourteen); management = e; supervision = f; check = rw (q, g) (enough fourteen) }
   where
     enough : (x : Bool) → 24 * (240 - widthOf x) ≤ 336
     enough true = lit≤ tt

@@ -6,19 +6,23 @@ use mathlib.Core.List.{List, [], _∷_, _++_, append-assoc}
 use Prim.Native.Nat.{ℕ, _+_, _-_, _*_, _<_, _≤_}
 use native.Mathlib.Nat.{add-sub-cancel-left}
 use native.Mathlib.Omega.{arith}
+use denote.Ref.{RefT, now}
 use borrow.Author.Tests.{eq-eqb, eqb-true, ltb-false, le-ltb}
 use lib.Dec.{eqb, ltb}
-use lib.ListN.{length, getD, take, drop, replicate, take-append-drop, length-drop}
-use lib.Seq.{length-take-le, getD-take, getD-drop, drop-drop}
+use lib.ListN.{length, getD, take, drop, replicate, take-append-drop, length-append, length-replicate, List·getD-append}
+use lib.Seq.{length-take-le, getD-take, getD-drop, drop-drop, take-add}
 use Rattle.octets.specs.Choice.{pick}
 use Rattle.octets.specs.Words.{split, join, bytes4}
 use Rattle.octets.proofs.SplitJoin.{split-join}
-use Rattle.frame.specs.Frame.{statusBy, fsyncBy, fcWidths, errOf, fsyncOf, flOf, carriedBy}
-use Rattle.frame.specs.Rules.{refusalOf}
+use Rattle.frame.specs.Frame.{statusBy, fsyncBy, fcWidths, errOf, fsyncOf, flOf, carriedBy, cut}
+use Rattle.frame.specs.declared.Span.{Span}
+use Rattle.frame.specs.Rules.{refusalOf, mainPart, ficPart, streamPart}
+use Rattle.frame.specs.Answers.{PartAt}
 use Rattle.frame.specs.Writing.{Bytes}
 use Rattle.frame.proofs.Accepting.{acceptable}
+use Rattle.frame.proofs.Fixed.{reading-fixed}
+use Rattle.trips.proofs.Alike.{accepted-alike, read-alike, main-alike, fic-alike, stream-alike}
 use Rattle.trips.proofs.Pieces.{sync-word}
-use Rattle.array.specs.Listed.{list}
 use Rattle.array.specs.CodingArray.{widthOf, carried, lent, Parts}
 use Rattle.array.specs.OutputArray.{outputOf, partsOf}
 use Rattle.array.specs.PartLengths.{refusalBeside}
@@ -30,6 +34,7 @@ use Rattle.outward.proofs.CodedOut.{take-list}
 use Rattle.homeward.specs.WayBack.{Returns}
 use Rattle.line.specs.NetworkOut.{logicalLength, logicalOf, withFrame, frameRefusal, SendsFrame}
 use Rattle.line.proofs.FrameOut.{logical-length, logical-within}
+use Rattle.remade.specs.ReadAlike.{ReadAlike}
 use Rattle.remade.specs.Remaking.{digit, flWithin, logicalWithin, startBytes, frameMade, earlyRefusal, makingRefusal, MakesFrame}
 
 first-four : (f : List ℕ) → 4 ≤ length f → take 4 f ≡ getD f 0 0 ∷ getD f 1 0 ∷ getD f 2 0 ∷ getD f 3 0 ∷ []
@@ -42,6 +47,10 @@ first-four (a ∷ b ∷ c ∷ d ∷ f) h = refl
 same-fl : (b f : List ℕ) → getD b 0 0 ≡ getD f 4 0 → getD b 1 0 ≡ getD f 5 0 → getD b 2 0 ≡ getD f 6 0 → getD b 3 0 ≡ getD f 7 0 → flWithin b ≡ flOf f
 unfolding flWithin flOf
 same-fl b f e0 e1 e2 e3 = λ i. getD (split fcWidths (join bytes4 (e0 i ∷ e1 i ∷ e2 i ∷ e3 i ∷ []))) 5 0
+
+-- the bytes of a part, where those of another frame's are the same
+part : {f g : List ℕ} (place : List ℕ → Span) (s t p q : RefT (List ℕ)) → now s ≡ f → now t ≡ g → cut g (place g) ≡ cut f (place f) → PartAt s (place (now s)) p → PartAt t (place (now t)) q → now p ≡ now q
+part place s t p q e d c a b = a .bytes ∙ ap (λ (l : List ℕ). cut l (place l)) e ∙ sym c ∙ sym (ap (λ (l : List ℕ). cut l (place l)) d) ∙ sym (b .bytes)
 
 module _ (f : List ℕ) (z : refusalOf f ≡ 0) (w : ℕ) (fits : logicalLength f ≤ carried w) where
   abbrev L : ℕ
@@ -104,6 +113,38 @@ module _ (f : List ℕ) (z : refusalOf f ≡ 0) (w : ℕ) (fits : logicalLength 
       ∙ ap (λ (r : List ℕ). take 4 f ++ r) (ap (λ (n : ℕ). take n (drop 4 f) ++ drop L (drop 4 f)) n ∙ take-append-drop L (drop 4 f))
       ∙ take-append-drop 4 f
 
+  -- it agrees with the frame in the length and in all that the frame carries
+  front : take 4 f ++ logicalOf f ≡ take (4 + L) f
+  front = ap (λ (n : ℕ). take 4 f ++ take n (drop 4 f)) (add-sub-cancel-left 4 L) ∙ sym (take-add 4 L f)
+
+  again-length : length repadded ≡ length f
+  unfolding repadded
+  again-length =
+      let size : length (take (4 + L) f) ≡ 4 + L = length-take-le (4 + L) f room in
+      let rest : length {A = ℕ} (replicate (6140 - L) 0x55) ≡ 6140 - L = length-replicate {A = ℕ} (6140 - L) 0x55 in
+      ap (λ (l : List ℕ). length (l ++ replicate (6140 - L) 0x55)) front
+      ∙ length-append (take (4 + L) f) (replicate (6140 - L) 0x55)
+      ∙ rw (size, rest) (omega (arith, acceptable f z .whole, room))
+
+  again-kept : (k : ℕ) → k < carriedBy (flOf f) → getD repadded k 0 ≡ getD f k 0
+  unfolding repadded
+  again-kept k h =
+      ap (λ (l : List ℕ). getD (l ++ replicate (6140 - L) 0x55) k 0) front
+      ∙ List·getD-append (take (4 + L) f) (replicate (6140 - L) 0x55) 0 k (rw (length-take-le (4 + L) f room) h)
+      ∙ getD-take (4 + L) f k 0 h
+
+  pub again-accepted : refusalOf repadded ≡ 0
+  again-accepted = accepted-alike f repadded z again-length again-kept
+
+  pub again-alike : ReadAlike f repadded
+  again-alike =
+      record {
+        reading = λ r q a b. reading-fixed f r q a (read-alike f repadded z again-length again-kept q b);
+        main = λ s t p q e d a b. part mainPart s t p q e d (main-alike f repadded z again-length again-kept) a b;
+        fic = λ s t p q e d a b. part ficPart s t p q e d (fic-alike f repadded z again-length again-kept) a b;
+        stream = λ i s t p q e d a b. part (λ l. streamPart l i) s t p q e d (stream-alike f repadded z again-length again-kept i) a b;
+      }
+
 -- ---- the three calls one after the other
 went : (a b : ℕ) (c : Bool) → pick (eqb a 0) (pick (eqb b 0) (pick c 23 0) b) 1 ≡ 0 → (a ≡ 0) × (b ≡ 0) × (c ≡ false)
 went a b c e = first (eqb a 0) refl e
@@ -147,18 +188,32 @@ module _ (fourteen : Bool) (f m s g h out o : List ℕ) (n : ℕ) (sends : Sends
       let S = sized width parts out (facts .0) (rw (logical-length f accepted) carries) in
       ap (λ (x : Parts). x .information) (q ∙ ap (partsOf width) output ∙ out-back (wide fourteen) parts S)
 
-  -- THE FRAME MADE AGAIN: of a frame whose padding is 55, with its own sync word and status byte, the same 6,144 bytes
-  pub same-frame : (fsync1 : Bool) (level : ℕ) (before after : Parts) (k : ℕ) (room made : List ℕ) (r : ℕ) → Bytes f → drop (carriedBy (flOf f)) f ≡ replicate (6144 - carriedBy (flOf f)) 0x55
-      → Own f accepted width carries fsync1 level → level ≤ 3 → Returns fourteen o before after k → k ≡ 0 → length room ≡ 6144 → MakesFrame fourteen fsync1 level (after .information) room made r → (r ≡ 0) × (made ≡ f)
-  unfolding makingRefusal earlyRefusal
-  same-frame fsync1 level before after k room made r y e own l t q size makes =
-      let i = information-back before after k t q in
-      let F : frameMade fsync1 level (after .information) ≡ f = ap (frameMade fsync1 level) i ∙ made-again f accepted width carries fsync1 level y own ∙ padded f accepted width carries e in
-      let c : length (after .information) ≡ carried width = ap length i ∙ list-length (λ n. getD (logicalOf f) n 0xFF) (carried width) in
-      let d : logicalWithin (after .information) ≡ logicalLength f = ap logicalWithin i ∙ logical-again f accepted width carries in
-      let none : earlyRefusal (carried width) (length (after .information)) (length room) level (logicalWithin (after .information)) ≡ 0 =
-      rw (c, size, d, eq-eqb (carried width) (carried width) refl, le-ltb 3 level l, le-ltb (carried width) (logicalLength f) carries) in
-      let z : r ≡ 0 = makes .number ∙ rw (none, F) accepted in
-      let b = makes .bytes in
-      let x : made ≡ frameMade fsync1 level (after .information) = (rw z at b) in
-      (z, x ∙ F)
+  -- what is made of it with its own sync word and status byte is the frame with padding of 55
+  module _ (fsync1 : Bool) (level : ℕ) (before after : Parts) (k : ℕ) (room made : List ℕ) (r : ℕ) (y : Bytes f) (own : Own f accepted width carries fsync1 level) (l : level ≤ 3)
+      (t : Returns fourteen o before after k) (q : k ≡ 0) (size : length room ≡ 6144) (makes : MakesFrame fourteen fsync1 level (after .information) room made r) where
+    again : List ℕ
+    again = repadded f accepted width carries
+
+    made-repadded : (r ≡ 0) × (made ≡ again)
+    unfolding makingRefusal earlyRefusal again
+    made-repadded =
+        let i = information-back before after k t q in
+        let F : frameMade fsync1 level (after .information) ≡ again = ap (frameMade fsync1 level) i ∙ made-again f accepted width carries fsync1 level y own in
+        let c : length (after .information) ≡ carried width = ap length i ∙ list-length (λ n. getD (logicalOf f) n 0xFF) (carried width) in
+        let d : logicalWithin (after .information) ≡ logicalLength f = ap logicalWithin i ∙ logical-again f accepted width carries in
+        let none : earlyRefusal (carried width) (length (after .information)) (length room) level (logicalWithin (after .information)) ≡ 0 =
+        rw (c, size, d, eq-eqb (carried width) (carried width) refl, le-ltb 3 level l, le-ltb (carried width) (logicalLength f) carries) in
+        let z : r ≡ 0 = makes .number ∙ rw (none, F) (again-accepted f accepted width carries) in
+        let b = makes .bytes in
+        let x : made ≡ frameMade fsync1 level (after .information) = (rw z at b) in
+        (z, x ∙ F)
+
+    -- THE FRAME MADE AGAIN: where its padding was 55, the same 6,144 bytes
+    pub same-frame : drop (carriedBy (flOf f)) f ≡ replicate (6144 - carriedBy (flOf f)) 0x55 → (r ≡ 0) × (made ≡ f)
+    unfolding again
+    same-frame e = let m = made-repadded in (m .0, m .1 ∙ padded f accepted width carries e)
+
+    -- and whatever its padding was, it is read alike: fields, entries, FIC and streams
+    pub same-reading : (r ≡ 0) × ReadAlike f made
+    unfolding again
+    same-reading = let m = made-repadded in (m .0, rw (m .1) (again-alike f accepted width carries))

@@ -1,1 +1,2 @@
 pub mod Remaking
+pub mod ReadAlike

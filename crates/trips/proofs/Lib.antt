@@ -7,3 +7,4 @@ pub mod ReadWritable
 pub mod Fitting
 pub mod Writable
 pub mod Written
+pub mod Alike

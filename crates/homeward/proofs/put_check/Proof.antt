@@ -1,45 +1,55 @@
 -- `homeward::put_check` meets its contract.
 -- Assumes nothing.
-use mathlib.Core.Path.{refl, ap, _∙_}
-use Prim.Native.Nat.{_+_, _-_, _/_, _%_, _<_}
-use native.Mathlib.Nat.{mod-lt}
+use Prim.Native.Nat.{ℕ, _+_, _-_, _*_, _≤_}
+use native.Mathlib.Nat.{zero-mul, mul-le-mul-right}
 use native.Mathlib.Omega.{arith}
 use borrow.Author.Needs.{needs}
-use lib.ListN.{length}
-use Rattle.array.specs.Listed.{list}
-use Rattle.array.specs.CodingArray.{at, checkOf}
-use Rattle.array.proofs.Filling.{Filled, filled-none, filled-more, filled-all}
-use Rattle.homeward.proofs.Unplacing.{check-row-lt}
+use Rattle.array.proofs.Filling.{Filled, filled-all}
+use Rattle.homeward.specs.BackClauses.{checkByteOf}
+use Rattle.homeward.proofs.Unplacing.{begun, reach, run-filled, check-at}
 use Rattle.homeward.proofs.put_check.Statement.{statement}
 use Rattle.homeward.proofs.put_check.Tie as tie
 
 abbrev Inv-loop : tie.InvT-loop
-Inv-loop w out₀ array r n₀ out n = Filled (λ n. at array (n / (240 - w)) (w + n % (240 - w))) 0 (length out₀) out n
+Inv-loop array w out₀ r i₀ out i = Filled (checkByteOf w array) 0 (24 * (240 - w)) out (i * (240 - w))
 
 abbrev μ-loop : tie.MeasureT-loop
-μ-loop w out₀ array r n₀ out n = length out₀ - n
+μ-loop array w out₀ r i₀ out i = 24 - i
 
 loop-holds : tie.Need-loop-holds Inv-loop μ-loop
-loop-holds c = filled-none _ 0 _ _ refl
+loop-holds c = begun _ _ _ _ (c .before .before .pre .3) (zero-mul _)
 
-add-out : tie.Need-add-out Inv-loop μ-loop
-add-out c = let w = c .before .before .args .w in let n = c .before .loop .n in let pos : 0 < 240 - w = search needs in let l = mod-lt n pos in omega arith
+-- the bytes of one row more
+room : (i r : ℕ) → i + 1 ≤ 24 → i * r + r ≤ 24 * r
+room i r h = let k : (i + 1) * r ≤ 24 * r = mul-le-mul-right r h in omega arith
 
-mul-out : tie.Need-mul-out Inv-loop μ-loop
-mul-out c = let w = c .before .before .args .w in let n = c .before .loop .n in let pos : 0 < 240 - w = search needs in let l = mod-lt n pos in let k : n / (240 - w) < 24 = check-row-lt (240 - w) n pos (search needs) in omega arith
+mul-put-each : tie.Need-mul-put-each Inv-loop μ-loop
+mul-put-each c =
+    let start = c .before .before .before .before .before .before in
+    let k = room (c .before .before .before .loop .i) (240 - start .args .w) (search needs) in
+    search (needs, k)
 
-index-1-out : tie.Need-index-1-out Inv-loop μ-loop
-index-1-out c = let w = c .before .before .args .w in let n = c .before .loop .n in let pos : 0 < 240 - w = search needs in let l = mod-lt n pos in check-row-lt (240 - w) n pos (search needs)
-
-index-2-out : tie.Need-index-2-out Inv-loop μ-loop
-index-2-out c = let w = c .before .before .args .w in let n = c .before .loop .n in let pos : 0 < 240 - w = search needs in let l = mod-lt n pos in omega arith
+put-each-requires : tie.Need-put-each-requires Inv-loop μ-loop
+put-each-requires c κs =
+    let start = c .before .before .before .before .before .before in
+    let i = c .before .before .before .loop .i in
+    let r = 240 - start .args .w in
+    let k = room i r (search needs) in
+    reach _ _ i (start .args .w) r (i * r) _ (start .pre .2) (search needs) (search needs) (c .before .interleaved .ensures) (omega (arith, k, c .before .before .before .loop .inv .size))
 
 loop-again : tie.Need-loop-again Inv-loop μ-loop
-loop-again c = filled-more _ 0 _ _ (c .before .before .loop .n) _ (c .before .before .loop .inv) (search needs) refl
+loop-again c =
+    let start = c .before .before .before .before .before .before .before .before .before in
+    let i = c .before .before .before .before .before .before .loop .i in
+    let w = start .args .w in
+    let r = 240 - w in
+    let p = c .before .before .before .before .interleaved .ensures in
+    run-filled (start .args .array .now) _ _ 8 r (i * r) _ (24 * r) (c .before .before .before .before .before .before .loop .inv) (room i r (search needs)) _ _ (λ m. check-at w (start .args .array .now) i _ m p) (c .before .before .put-each .ensures) (omega arith)
 
 returns : tie.Need-returns Inv-loop μ-loop
-unfolding checkOf
-returns c = filled-all _ 0 _ _ (c .before .loop .n) (c .before .loop .inv) (search needs) ∙ ap (list _) (c .before .before .pre .2)
+returns c =
+    let r = 240 - c .before .before .before .before .args .w in
+    filled-all _ 0 _ _ (c .before .loop .i * r) (c .before .loop .inv) (mul-le-mul-right r (c .loop-test .left))
 
 pub put-check-spec : {M : Type 1} → statement M
 put-check-spec =
@@ -49,13 +59,9 @@ put-check-spec =
     μ-loop
     (λ c. search needs)
     loop-holds
-    (λ c. search needs)
-    (λ c. search needs)
-    add-out
-    mul-out
-    index-1-out
-    index-2-out
-    (λ c. search needs)
+    (λ c κs. search needs)
+    mul-put-each
+    put-each-requires
     (λ c. search needs)
     (λ c. search needs)
     loop-again

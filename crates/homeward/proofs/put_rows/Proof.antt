@@ -8,24 +8,30 @@ use Rattle.array.specs.Listed.{list}
 use Rattle.array.specs.CodingArray.{widthOf}
 use Rattle.array.proofs.Filling.{Filled, filled-none, filled-more, filled-all}
 use Rattle.homeward.specs.RowsClean.{cleanRow, cleanRows}
+use Rattle.homeward.proofs.Unplacing.{interleaving-length}
 use Rattle.homeward.proofs.put_rows.Statement.{statement}
 use Rattle.homeward.proofs.put_rows.Tie as tie
 
 abbrev Inv-loop : tie.InvT-loop
-Inv-loop output fourteen clean₀ i₀ clean i = Filled (cleanRow (widthOf fourteen) output) 0 (length clean₀) clean i
+Inv-loop output fourteen clean₀ array i₀ clean i = Filled (cleanRow (widthOf fourteen) output) 0 (length clean₀) clean i
 
 abbrev μ-loop : tie.MeasureT-loop
-μ-loop output fourteen clean₀ i₀ clean i = length clean₀ - i
+μ-loop output fourteen clean₀ array i₀ clean i = length clean₀ - i
 
 loop-holds : tie.Need-loop-holds Inv-loop μ-loop
 loop-holds c = filled-none _ 0 _ _ refl
 
+clean-row-requires : tie.Need-clean-row-requires Inv-loop μ-loop
+clean-row-requires c κs = (interleaving-length _ _ (c .before .before .before .interleaving .ensures), search needs)
+
 loop-again : tie.Need-loop-again Inv-loop μ-loop
-loop-again c = filled-more _ 0 _ _ (c .before .before .loop .i) _ (c .before .before .loop .inv) (search needs) (c .clean-row .ensures)
+loop-again c =
+    let start = c .before .before .before .before .before .before .before in
+    filled-more _ 0 _ _ (c .before .before .before .loop .i) _ (c .before .before .before .loop .inv) (search needs) (c .clean-row .ensures (start .args .output .now) (c .before .before .before .before .interleaving .ensures))
 
 returns : tie.Need-returns Inv-loop μ-loop
 unfolding cleanRows
-returns c = filled-all _ 0 _ _ (c .before .loop .i) (c .before .loop .inv) (search needs) ∙ ap (list _) (c .before .before .before .before .pre .1)
+returns c = filled-all _ 0 _ _ (c .before .loop .i) (c .before .loop .inv) (search needs) ∙ ap (list _) (c .before .before .before .before .before .pre .1)
 
 pub put-rows-spec : {M : Type 1} → statement M
 put-rows-spec =
@@ -33,8 +39,10 @@ put-rows-spec =
     (tie.spec
     Inv-loop
     μ-loop
-    loop-holds
     (λ c κs. search needs)
+    loop-holds
+    (λ c. search needs)
+    clean-row-requires
     (λ c. search needs)
     (λ c. search needs)
     (λ c. search needs)
