@@ -1,6 +1,7 @@
 #!/usr/bin/env python3
 """memory.py RESIDENT COMMAND ROOM MIB: whether listing a record of MIB mebibytes of clean frames takes no more memory than one of 1 MiB, from a file and from standard input: the most
-that was ever resident (by resident.c), mapped pages of the file included. Of a mapped file 4 MiB stand at a time, so that many, and 2 for the count's own grain, are allowed."""
+that was ever resident (by resident.c), mapped pages of the file included. Of a mapped file about 1 MiB stands at a time, and what the system maps ahead in one go (4 MiB
+were seen), so 6 MiB more than of 1 MiB are allowed, whatever the size."""
 import os
 import subprocess
 import sys

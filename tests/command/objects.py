@@ -156,8 +156,8 @@ def shows():
     text = lines(HERE + "show.out")
     begins = [i for i, line in enumerate(text) if line.startswith("place ")] + [len(text)]
     asked = [[MADE + "/four.eti"], [MADE + "/four.eti", "6144"], [MADE + "/damaged.eti", "6921"], [MADE + "/damaged.eti", "31597"], [HERE + "clash.eti"],
-             [HERE + "clash.eti", "12288"], ["samples/signalling.eti"]]
-    hold("show, seven frames", len(begins) == 8)
+             [HERE + "clash.eti", "12288"], ["samples/signalling.eti"], [MADE + "/damaged.eti", "25453"]]
+    hold("show, eight frames", len(begins) == 9)
     for i, words in enumerate(asked):
         status, out, err = run("show", *words)
         (found,) = objects(out)

@@ -4,6 +4,7 @@ and that nothing of it is left."""
 import os
 import pty
 import re
+import select
 import signal
 import subprocess
 import sys
@@ -21,16 +22,16 @@ def hold(what, right):
 
 
 def on_terminal(words, which, feed=None, cut=None, **environment):
-    """Runs the command with `which`, stdout or stderr, on a terminal: its status, what the terminal got, and the other output."""
+    """Runs the command with `which`, stdout, stderr or both, on a terminal: its status, what the terminal got, and the other output."""
     ours, theirs = pty.openpty()
     other = open(ROOM + "/other", "w+b")
-    streams = {"stdout": other, "stderr": other, which: theirs}
+    streams = {name: theirs if which in (name, "both") else other for name in ("stdout", "stderr")}
     setting = dict(os.environ, TERM="xterm", NO_COLOR="")
     setting.update(environment)
     done = subprocess.Popen([COMMAND, *words], stdin=subprocess.PIPE, env=setting, **streams)
     os.close(theirs)
     if feed is not None:
-        feed(done.stdin)
+        feed(done.stdin, lambda: select.select([ours], [], [], 0.25)[0])
     done.stdin.close()
     got = b""
     while True:
@@ -72,23 +73,25 @@ def colours():
 
 
 def long_work():
-    """The way back takes a third of a millisecond for a multiframe; as many as take this machine some seconds."""
+    """The way back takes a third of a millisecond for a multiframe; as many as it takes this machine until a line is shown."""
     with open("tests/command/four.5592", "rb") as lines:
         three = lines.read()
-    count, took = 1500, 0
-    words = ["g704", "back", ROOM + "/many.5592"]
-    while took < 1.5:
-        count *= 4
+    words, count, told = ["g704", "back", ROOM + "/many.5592"], 2250, []
+
+    def make():
         with open(words[-1], "wb") as many:
             many.write(three * (count // 3))
-        began = time.monotonic()
+    while told == [] and count < 100000:
+        count *= 2
+        make()
         status, got, frames = on_terminal(words, "stderr")
-        took = time.monotonic() - began
-    told = [(int(share), float(speed), int(left)) for share, speed, left in re.findall(rb"(\d+) %, (\d+\.\d) MB/s, (\d+) s left", got)]
+        told = [(int(share), float(speed), int(left)) for share, speed, left in re.findall(rb"(\d+) %, (\d+\.\d) MB/s, (\d+) s left", got)]
     hold("progress", told != [] and all(0 < share <= 100 and 0 < speed < 1000 and left < 600 for share, speed, left in told))
     hold("progress grows", [share for share, _, _ in told] == sorted(share for share, _, _ in told))
     hold("progress is gone", status == 0 and screen(got) == ["spindlewren: %s: multiframes %d, rows not clean 0, frames not made 0" % (words[-1], count)])
     hold("the frames are there", len(frames) == count * 6144)
+    count *= 2
+    make()
     status, got, _ = on_terminal(words, "stderr", cut=signal.SIGINT)
     hold("interrupted", status == -signal.SIGINT and b"left" in got and screen(got) == [])
 
@@ -97,14 +100,22 @@ def slow_line():
     with open("samples/night.eti", "rb") as record:
         frames = record.read(12288)
 
-    def feed(to):
-        for _ in range(3):
+    def until_shown(to, shown):
+        pieces = 0
+        while pieces < 60 and not shown():
             to.write(frames)
             to.flush()
-            time.sleep(0.6)
-    status, got, listed = on_terminal(["list", "-"], "stderr", feed)
+            pieces += 1
+
+    def for_a_while(to, shown):
+        for _ in range(6):
+            to.write(frames)
+            to.flush()
+            time.sleep(0.25)
+    status, got, listed = on_terminal(["list", "-"], "stderr", until_shown)
     hold("progress of a line", status == 0 and re.search(rb"\d+\.\d MB, \d+\.\d MB/s", got) is not None and screen(got) == [])
-    hold("a line's items", listed.count(b" frame ") == 6 and listed.endswith(b"end 36864\n"))
+    status, got, _ = on_terminal(["list", "-"], "both", for_a_while)
+    hold("no progress among the lines", status == 0 and got.count(b" frame ") == 12 and got.count(b"\n") == 14 and b"MB" not in got)
 
 
 def short_work():
