@@ -4,11 +4,11 @@
 
 #include "spindlewren.h"
 
-/* Exit statuses. */
-enum { DONE = 0, COULD_NOT = 1, WRONG_USE = 2 };
+/* Exit statuses; the last is that of list --strict. */
+enum { DONE = 0, COULD_NOT = 1, WRONG_USE = 2, LOST_SOME = 3 };
 
 /* What a verb is asked: a file or several; and, where the verb takes them, a way (out, back), a place, a part's name, the limit of misses of a walk, which sync
-   word, 0 or 1, a frame gets, the variant of a leased line, whether a page is wanted, and whether periods with no frame are filled. */
+   word, 0 or 1, a frame gets, the variant of a leased line; and whether a page, filled periods, a status for lost marks or JSON are wanted. */
 struct request {
     const char *file;
     char **files;
@@ -17,14 +17,11 @@ struct request {
     int placed;
     size_t place;
     const char *part;
-    size_t limit;
-    size_t sync;
-    size_t variant;
-    int html;
-    int fill;
+    size_t limit, sync, variant;
+    size_t html, fill, strict, json;
 };
 
-/* What a verb takes beside a file. */
+/* What a verb takes beside a file and --json. */
 enum {
     TAKES_LIMIT = 1,
     TAKES_PLACE = 2,
@@ -34,27 +31,25 @@ enum {
     TAKES_SYNC = 32,
     TAKES_HTML = 64,
     TAKES_FILL = 128,
-    TAKES_WAY = 256 /* and a variant */
+    TAKES_WAY = 256, /* and a variant */
+    TAKES_STRICT = 512
 };
 
-/* A verb: its name, what it takes, what it does, and the line of help. */
 struct verb {
     const char *name;
-    unsigned takes;
     void (*run)(const struct request *asked);
-    const char *help;
+    unsigned takes;
+    const char *words, *help;
 };
 
-void edi_frame(const struct request *asked);
-void extract(const struct request *asked);
-void g704(const struct request *asked);
-void list(const struct request *asked);
-void profile(const struct request *asked);
-void show(const struct request *asked);
-void signalling(const struct request *asked);
-void why(const struct request *asked);
-void keep_log(const struct request *asked);
-void sheet(const struct request *asked);
+#define VERB(name, run, takes, words, help) void run(const struct request *asked);
+#include "verbs.h"
+#undef VERB
+
+/* The words behind a verb, put into the request. Ends the command with WRONG_USE where they are not the verb's. */
+void understand(const struct verb *verb, int argc, char **argv, struct request *asked);
+
+/* ---- files and walks */
 
 /* A recorded file, or, where it is called -, standard input: a line whose bytes come in pieces, of which few are kept. */
 struct record {
@@ -62,31 +57,55 @@ struct record {
     size_t len;
 };
 
-/* The whole file, mapped, so that its size does not matter. Ends the command where that cannot be. */
+/* The whole file, mapped, so that its size does not matter; all of standard input in memory. Ends the command where that cannot be. */
 struct record map(const char *file);
 
-/* Whether a file is standard input. */
+/* Whether a file is standard input; and what a file is called in messages. */
 int is_line(const char *file);
+const char *called(const char *file);
 
-/* A walk over the file or the line from its beginning: the heading, if there is one, once nothing is refused, and then each item is told, done the last, as the walk's bytes have it, with the item's
-   bytes in the record. An item of a line is told as soon as it is there. */
+/* A walk over the file or the line from its beginning: the heading, if there is one and no JSON is wanted, once nothing is refused, and then each item is told, done
+   the last, as the walk's bytes have it, with the item's bytes in the record. An item of a line is told as soon as it is there. */
 typedef void (*teller)(const uint8_t *item, const uint8_t *walk, void *to);
 void each_item(const struct request *asked, const char *heading, teller tell, void *to);
 
 /* .. of a line. */
 void each_of_line(uint8_t *walk, teller tell, void *to);
 
+/* Between two items, so many bytes done: ends the command if what was told could not be written, and tells of the progress where that is due. */
+void heed(uint64_t done);
+
+/* ---- progress: a line on standard error, if that is a terminal and standard output is none, once the work has lasted a second */
+
+/* Work begins on so many bytes; 0 where that is not known. */
+void progress_begin(uint64_t bytes);
+int progress_due(void);
+void progress_show(uint64_t done);
+/* The line is taken away. */
+void progress_end(void);
+
+/* ---- words, numbers and ends */
+
 /* A number in digits alone; 0 where the word is none. One that is too large for its type is the largest: it is outside every range here. */
 int digits(const char *word, size_t *number);
 
-/* Ends the command with DONE once all is written, or with COULD_NOT. */
-void finish(void);
+/* The digits of a number, put before `end`: where they begin. */
+char *number_before(char *end, uint64_t n);
+
+/* Whether standard output shall have colours: it is a terminal that has them, and NO_COLOR is not set. */
+int coloured(void);
+
+/* Ends the command with a status once all is written, or with COULD_NOT. */
+void finish(int status);
 
 /* Ends the command with COULD_NOT: the file and the reason on standard error. */
 void fail(const char *file, const char *reason);
 
 /* .. where the reason is a refusal number. */
 void refuse(const char *file, uint8_t refusal);
+
+/* Ends the command with WRONG_USE: what is wrong, and the word, on standard error. */
+void wrong_use(const char *what, const char *word);
 
 /* ---- sheets of logs, for the table and the page */
 

@@ -1,15 +1,15 @@
 /* g704: the frames of a record as multiframes of a leased 2 Mbit/s line, and multiframes as frames. What a record does not have (management, supervision and
    G.704's own bytes) is zero on the way out and left aside on the way back. */
 #include "command.h"
+#include "json.h"
 #include "spindlewren_lines.h"
 
-#include <stdio.h>
 #include <string.h>
 
-/* The way out: how many frames the variant does not carry, and where the first is. */
+/* The way out: how many frames were sent, how many the variant does not carry, and where the first of these is. */
 struct sending {
     size_t variant;
-    unsigned long long refused, first;
+    unsigned long long sent, refused, first;
 };
 
 static void send(const uint8_t *frame, const uint8_t *walk, void *to) {
@@ -23,15 +23,22 @@ static void send(const uint8_t *frame, const uint8_t *walk, void *to) {
                                    SPINDLEWREN_SYNCHRONISING, none, SPINDLEWREN_SIGNALLING, output, sizeof output);
     if (refusal == SPINDLEWREN_ACCEPTED) {
         fwrite(output, 1, sizeof output, stdout);
+        s->sent++;
     } else if (s->refused++ == 0) {
         s->first = spindlewren_number(walk, SPINDLEWREN_ITEM, 8);
     }
 }
 
 static void out(const struct request *asked) {
-    struct sending s = {asked->variant, 0, 0};
+    struct sending s = {asked->variant, 0, 0, 0};
     char reason[128];
     each_item(asked, NULL, send, &s);
+    if (asked->json) {
+        json_begin(stderr);
+        json_number("multiframes", s.sent);
+        json_number("frames_not_sent", s.refused);
+        json_end();
+    }
     if (s.refused == 0) return;
     snprintf(reason, sizeof reason, "%llu frames not sent, the first at %llu: %s (refusal %u)", s.refused, s.first, spindlewren_label(SPINDLEWREN_TOO_LONG),
              SPINDLEWREN_TOO_LONG);
@@ -60,16 +67,32 @@ static void bring(const uint8_t *array, size_t variant, struct bringing *b) {
     b->arrays++;
 }
 
+static void brought(const struct request *asked, const struct bringing *b) {
+    char told[128];
+    snprintf(told, sizeof told, "multiframes %llu, rows not clean %llu, frames not made %llu", b->arrays, b->hit, b->unmade);
+    if (asked->json) {
+        json_begin(stderr);
+        json_number("multiframes", b->arrays);
+        json_number("rows_not_clean", b->hit);
+        json_number("frames_not_made", b->unmade);
+        json_end();
+    }
+    if (b->unmade > 0) fail(asked->file, told);
+    if (!asked->json) fprintf(stderr, "spindlewren: %s: %s\n", called(asked->file), told);
+}
+
 static void back(const struct request *asked) {
     struct record record = map(asked->file);
     struct bringing b = {0, 0, 0};
-    char told[128];
     size_t at;
     if (record.len % SPINDLEWREN_OUTPUT != 0) fail(asked->file, "not a whole number of multiframes of 6,144 bytes");
-    for (at = 0; at < record.len; at += SPINDLEWREN_OUTPUT) bring(record.bytes + at, asked->variant, &b);
-    snprintf(told, sizeof told, "multiframes %llu, rows not clean %llu, frames not made %llu", b.arrays, b.hit, b.unmade);
-    if (b.unmade > 0) fail(asked->file, told);
-    fprintf(stderr, "spindlewren: %s: %s\n", asked->file, told);
+    progress_begin(record.len);
+    for (at = 0; at < record.len; at += SPINDLEWREN_OUTPUT) {
+        bring(record.bytes + at, asked->variant, &b);
+        heed(at);
+    }
+    progress_end();
+    brought(asked, &b);
 }
 
 void g704(const struct request *asked) {

@@ -17,15 +17,16 @@ struct line {
 };
 
 /* The next piece behind what is kept. What was told is written out first: the piece may be long in coming. */
-static void take_piece(struct line *line) {
+static void take_piece(struct line *line, uint64_t place) {
     ssize_t n;
-    if (fflush(stdout) != 0) fail("standard output", strerror(errno));
+    fflush(stdout);
+    heed(place);
     memmove(line->bytes, line->bytes + line->begin, line->end - line->begin);
     line->end -= line->begin;
     line->begin = 0;
     do n = read(STDIN_FILENO, line->bytes + line->end, sizeof line->bytes - line->end);
     while (n < 0 && errno == EINTR);
-    if (n < 0) fail("standard input", strerror(errno));
+    if (n < 0) fail("-", strerror(errno));
     if (n == 0) line->more = 0;
     line->end += (size_t)n;
 }
@@ -39,7 +40,7 @@ void each_of_line(uint8_t *walk, teller tell, void *to) {
         spindlewren_live(window, line.end - line.begin, line.more, walk, SPINDLEWREN_WALK);
         line.begin += (size_t)(spindlewren_number(walk, SPINDLEWREN_PLACE, 8) - from);
         if (walk[SPINDLEWREN_KIND] == SPINDLEWREN_IS_MORE) {
-            take_piece(&line);
+            take_piece(&line, spindlewren_number(walk, SPINDLEWREN_PLACE, 8));
         } else {
             tell(window + (spindlewren_number(walk, SPINDLEWREN_ITEM, 8) - from), walk, to);
         }

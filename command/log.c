@@ -1,10 +1,14 @@
 /* log: the fault log of a record, a record of sixteen bytes for each item but done. */
 #include "command.h"
+#include "json.h"
 
-#include <stdio.h>
+struct logging {
+    const char *file;
+    unsigned long long records;
+};
 
 static void keep(const uint8_t *item, const uint8_t *walk, void *to) {
-    const char *file = to;
+    struct logging *l = to;
     size_t place = (size_t)spindlewren_number(walk, SPINDLEWREN_ITEM, 8);
     uint8_t kind = walk[SPINDLEWREN_KIND], code = walk[SPINDLEWREN_NUMBER], level = 0xFF;
     uint8_t answer[SPINDLEWREN_ANSWER], bytes[SPINDLEWREN_LOG_RECORD];
@@ -18,10 +22,17 @@ static void keep(const uint8_t *item, const uint8_t *walk, void *to) {
     }
     /* never refused, by proof */
     refusal = spindlewren_log_write(place, kind, code, level, bytes, sizeof bytes);
-    if (refusal != SPINDLEWREN_ACCEPTED) refuse(file, refusal);
+    if (refusal != SPINDLEWREN_ACCEPTED) refuse(l->file, refusal);
     fwrite(bytes, sizeof bytes, 1, stdout);
+    l->records++;
 }
 
 void keep_log(const struct request *asked) {
-    each_item(asked, NULL, keep, (void *)asked->file);
+    struct logging l = {asked->file, 0};
+    each_item(asked, NULL, keep, &l);
+    if (!asked->json) return;
+    json_begin(stderr);
+    json_number("records", l.records);
+    json_number("bytes", SPINDLEWREN_LOG_RECORD * l.records);
+    json_end();
 }

@@ -136,7 +136,7 @@ static void night(const char *name, size_t number) {
     fill(log, &strip);
     for (row = 0; row < SHEET_ROWS; row++) lanes += total(sheet, sheet_rows[row]) != 0;
     printf("<h2>");
-    text(name);
+    text(called(name));
     printf("</h2>\n");
     if (lanes == 0) {
         printf("<p>The log is empty.</p>\n");
@@ -148,7 +148,7 @@ static void night(const char *name, size_t number) {
            "its share of the column, and never too small to be seen; where no lane has one, nothing was handed out.</p>\n", all_items(sheet), all, column);
     printf("<svg xmlns=\"http://www.w3.org/2000/svg\" role=\"img\" aria-labelledby=\"t%zu d%zu\" viewBox=\"0 0 %d %u\">\n<title id=\"t%zu\">", number, number, WIDE,
            lanes * LANE + 30, number);
-    text(name);
+    text(called(name));
     printf(" in time</title>\n<desc id=\"d%zu\">A strip of %s, a lane for each kind of item that occurs, with its name on the left and how many there are on the "
            "right.</desc>\n", number, all);
     for (row = 0; row < SHEET_ROWS; row++) {

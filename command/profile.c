@@ -1,9 +1,9 @@
 /* profile: of each frame handed out, whether it passes the final-stage profile, and which streams are in the way. */
 #include "command.h"
-
-#include <stdio.h>
+#include "json.h"
 
 struct count {
+    size_t json;
     unsigned long long frames, passing;
 };
 
@@ -28,28 +28,74 @@ static void streams(const uint8_t *frame, const uint8_t *found) {
     }
 }
 
-static void judge(const uint8_t *item, const uint8_t *walk, void *to) {
-    struct count *count = to;
-    unsigned long long place = spindlewren_number(walk, SPINDLEWREN_ITEM, 8);
-    uint8_t found[SPINDLEWREN_COLLISION];
-    uint8_t number;
-    if (walk[SPINDLEWREN_KIND] != SPINDLEWREN_IS_FRAME) return;
-    /* a frame that the walk hands out is accepted */
-    spindlewren_collision(item, SPINDLEWREN_FRAME, found, sizeof found);
-    number = found[SPINDLEWREN_PROFILE];
-    count->frames++;
-    count->passing += number == 0;
+/* The same by name: the streams, and what it is in their entries. */
+static void streams_as_json(const uint8_t *frame, const uint8_t *found) {
+    uint8_t answer[SPINDLEWREN_ANSWER];
+    unsigned first = found[SPINDLEWREN_FIRST], second = found[SPINDLEWREN_SECOND];
+    spindlewren_read(frame, SPINDLEWREN_FRAME, answer, sizeof answer);
+    json_open("streams", '[');
+    json_number(NULL, first);
+    if (second != first) json_number(NULL, second);
+    json_close(']');
+    switch (found[SPINDLEWREN_PROFILE]) {
+    case SPINDLEWREN_EQUAL_SCIDS: json_number("SCID", field(answer, first, SPINDLEWREN_SCID, 1)); break;
+    case SPINDLEWREN_NO_SIZE:
+        json_number("TPL", field(answer, first, SPINDLEWREN_TPL, 1));
+        json_number("STL", field(answer, first, SPINDLEWREN_STL, 2));
+        break;
+    default:
+        json_open("SAD", '[');
+        json_number(NULL, field(answer, first, SPINDLEWREN_SAD, 2));
+        if (second != first) json_number(NULL, field(answer, second, SPINDLEWREN_SAD, 2));
+        json_close(']');
+    }
+}
+
+static void as_json(unsigned long long place, const uint8_t *frame, const uint8_t *found) {
+    uint8_t number = found[SPINDLEWREN_PROFILE];
+    json_begin(stdout);
+    json_number("place", place);
+    json_raw("passes", number == 0 ? "true" : "false");
+    if (number != 0) {
+        json_refusal(number);
+        streams_as_json(frame, found);
+    }
+    json_end();
+}
+
+static void as_text(unsigned long long place, const uint8_t *frame, const uint8_t *found) {
+    uint8_t number = found[SPINDLEWREN_PROFILE];
     printf("%llu: ", place);
     if (number == 0) {
         puts("passes");
     } else {
         printf("does not pass (refusal %u, %s): ", number, spindlewren_label(number));
-        streams(item, found);
+        streams(frame, found);
     }
 }
 
+static void judge(const uint8_t *item, const uint8_t *walk, void *to) {
+    struct count *count = to;
+    unsigned long long place = spindlewren_number(walk, SPINDLEWREN_ITEM, 8);
+    uint8_t found[SPINDLEWREN_COLLISION];
+    if (walk[SPINDLEWREN_KIND] != SPINDLEWREN_IS_FRAME) return;
+    /* a frame that the walk hands out is accepted */
+    spindlewren_collision(item, SPINDLEWREN_FRAME, found, sizeof found);
+    count->frames++;
+    count->passing += found[SPINDLEWREN_PROFILE] == 0;
+    if (count->json) as_json(place, item, found);
+    else as_text(place, item, found);
+}
+
 void profile(const struct request *asked) {
-    struct count count = {0, 0};
+    struct count count = {asked->json, 0, 0};
     each_item(asked, "place: profile", judge, &count);
-    printf("frames %llu, passing %llu\n", count.frames, count.passing);
+    if (!asked->json) {
+        printf("frames %llu, passing %llu\n", count.frames, count.passing);
+        return;
+    }
+    json_begin(stdout);
+    json_number("frames", count.frames);
+    json_number("passing", count.passing);
+    json_end();
 }

@@ -1,7 +1,7 @@
 /* sheet: what one log or several joined add up to, in words. */
 #include "command.h"
+#include "json.h"
 
-#include <stdio.h>
 #include <string.h>
 
 const unsigned sheet_rows[SHEET_ROWS] = {0, 1, 2, 3, 6, 7, 9, 10, 11, 12, 13, 14, SPINDLEWREN_IDLE_ROW};
@@ -107,13 +107,33 @@ static void table(const struct request *asked, const uint8_t *sheet) {
     printf("%*s           frames missing by FCT, from each frame to the next\n", wide, missing);
 }
 
+static void as_json(const struct request *asked, const uint8_t *sheet) {
+    char missing[MISSING_DIGITS], number[4];
+    size_t i;
+    missing_frames(sheet, missing);
+    json_begin(stdout);
+    json_number("logs", asked->count);
+    json_number("items", all_items(sheet));
+    json_open("frames_at_level", '[');
+    for (i = 0; i < SPINDLEWREN_LOST_ROW; i++) json_number(NULL, total(sheet, sheet_rows[i]));
+    json_close(']');
+    json_open("lost_by_refusal", '{');
+    for (; i + 1 < SHEET_ROWS; i++) {
+        snprintf(number, sizeof number, "%u", sheet_rows[i] - SPINDLEWREN_LOST_ROW);
+        json_number(number, total(sheet, sheet_rows[i]));
+    }
+    json_close('}');
+    json_number("idle", total(sheet, SPINDLEWREN_IDLE_ROW));
+    json_raw("frames_missing", missing);
+    json_end();
+}
+
 void sheet(const struct request *asked) {
     uint8_t bytes[SPINDLEWREN_SHEET];
     size_t i;
     memset(bytes, 0, sizeof bytes);
     for (i = 0; i < asked->count; i++) add_log(asked->files[i], bytes);
-    if (asked->html)
-        page(asked, bytes);
-    else
-        table(asked, bytes);
+    if (asked->html) page(asked, bytes);
+    else if (asked->json) as_json(asked, bytes);
+    else table(asked, bytes);
 }

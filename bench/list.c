@@ -1,0 +1,103 @@
+/* list COMMAND FILE: the command's list over a record of full frames, made in FILE, beside the walk over the same bytes in memory, alone and with each frame read
+   once more: processor time for a frame, user and system, the least of many rounds in turn. */
+#define _DEFAULT_SOURCE
+#include "spindlewren.h"
+
+#include <fcntl.h>
+#include <spawn.h>
+#include <stdio.h>
+#include <stdlib.h>
+#include <string.h>
+#include <sys/resource.h>
+#include <sys/wait.h>
+#include <time.h>
+
+enum { ROUNDS = 20, FRAMES = 43690, FL = 1532, HEAD = 4 + 3 * 4 + 2 };
+
+static uint8_t *record;
+static const size_t len = (size_t)FRAMES * SPINDLEWREN_FRAME;
+
+static void put_sum(uint8_t *bytes, size_t n) {
+    unsigned r = 0xFFFF, bit;
+    size_t i;
+    for (i = 0; i < n; i++)
+        for (r ^= (unsigned)bytes[i] << 8, bit = 0; bit < 8; bit++) r = (r << 1 ^ (r & 0x8000 ? 0x1021 : 0)) & 0xFFFF;
+    bytes[n] = (uint8_t)(~r >> 8);
+    bytes[n + 1] = (uint8_t)~r;
+}
+
+/* Three streams, STL 684, 80 and 0, and no FIC. */
+static void full_frame(uint8_t *frame, unsigned n) {
+    static const uint8_t start[] = {0xFF, 0x07, 0x3A, 0xB6, 0, 3, FL >> 8, FL & 0xFF, 0, 0, 2, 0xAC, 4, 0, 0, 80, 8, 0, 0, 0};
+    size_t i;
+    memset(frame, 0xFF, SPINDLEWREN_FRAME);
+    memcpy(frame, start, sizeof start);
+    for (i = 1; n % 2 == 1 && i < 4; i++) frame[i] ^= 0xFF;
+    frame[4] = (uint8_t)(n % 250);
+    memset(frame + 20, 0, 2);
+    put_sum(frame + 4, HEAD);
+    for (i = 24; i < 4 + (FL + 1) * 4; i++) frame[i] = (uint8_t)(31 * i + 7);
+    put_sum(frame + 24, 4 + (FL + 1) * 4 - 24);
+}
+
+static double seconds(struct timeval t) {
+    return (double)t.tv_sec + (double)t.tv_usec / 1e6;
+}
+
+static double spent(void) {
+    struct timespec t;
+    clock_gettime(CLOCK_PROCESS_CPUTIME_ID, &t);
+    return (double)t.tv_sec + (double)t.tv_nsec / 1e9;
+}
+
+static double walked(int reading) {
+    uint8_t walk[SPINDLEWREN_WALK], answer[SPINDLEWREN_ANSWER];
+    double began = spent();
+    size_t frames = 0;
+    spindlewren_begin(3, walk, sizeof walk);
+    do {
+        spindlewren_step(record, len, walk, sizeof walk);
+        frames += walk[SPINDLEWREN_KIND] == SPINDLEWREN_IS_FRAME;
+        if (reading && walk[SPINDLEWREN_KIND] == SPINDLEWREN_IS_FRAME)
+            spindlewren_read(record + spindlewren_number(walk, SPINDLEWREN_ITEM, 8), SPINDLEWREN_FRAME, answer, sizeof answer);
+    } while (walk[SPINDLEWREN_KIND] != SPINDLEWREN_IS_DONE);
+    if (frames != FRAMES) exit(1);
+    return spent() - began;
+}
+
+static double listed(const char *command, const char *file) {
+    struct rusage used;
+    /* not by fork, which would copy the tables of this program's own memory in the command's time */
+    char *words[] = {(char *)command, "list", (char *)file, NULL}, *none[] = {NULL};
+    posix_spawn_file_actions_t actions;
+    int status;
+    pid_t child;
+    posix_spawn_file_actions_init(&actions);
+    posix_spawn_file_actions_addopen(&actions, 1, "/dev/null", O_WRONLY, 0);
+    if (posix_spawn(&child, command, &actions, NULL, words, none) != 0 || wait4(child, &status, 0, &used) != child || status != 0) exit(1);
+    posix_spawn_file_actions_destroy(&actions);
+    return seconds(used.ru_utime) + seconds(used.ru_stime);
+}
+
+int main(int argc, char **argv) {
+    double least[3] = {1e9, 1e9, 1e9};
+    FILE *file = argc == 3 ? fopen(argv[2], "wb") : NULL;
+    unsigned n;
+    int i;
+    record = malloc(len);
+    if (file == NULL || record == NULL) return 1;
+    for (n = 0; n < 500; n++) full_frame(record + (size_t)n * SPINDLEWREN_FRAME, n);
+    for (; n < FRAMES; n++) memcpy(record + (size_t)n * SPINDLEWREN_FRAME, record + (size_t)(n % 500) * SPINDLEWREN_FRAME, SPINDLEWREN_FRAME);
+    if (fwrite(record, 1, len, file) != len || fclose(file) != 0) return 1;
+    for (n = 0; n < ROUNDS; n++) {
+        double now[3];
+        now[0] = walked(0);
+        now[1] = walked(1);
+        now[2] = listed(argv[1], argv[2]);
+        for (i = 0; i < 3; i++)
+            if (now[i] < least[i]) least[i] = now[i];
+    }
+    printf("ns of processor for a full frame: walk %.0f, walk and reading again %.0f, list %.0f; list / walk %.2f\n", 1e9 * least[0] / FRAMES, 1e9 * least[1] / FRAMES,
+           1e9 * least[2] / FRAMES, least[2] / least[0]);
+    return 0;
+}
