@@ -137,7 +137,7 @@ enum {
 };
 
 /* What a sheet has: sixteen totals of 8 bytes each (0 to 3: frames at that level; 4 + n: lost marks of refusal n, so 6, 7 and 9 to 14; 15: idle items; the rest
-   stay 0), the frames missing by FCT, high * 1,000,000,000 + low, whether a frame was met, 0 or 1, and the last one's FCT. All zero is the sheet of nothing. */
+   stay as they are), the frames missing by FCT, high * 1,000,000,000 + low, whether a frame was met, 0 or 1, and the last one's FCT. All zero is the sheet of nothing. */
 enum {
     SPINDLEWREN_TOTALS = 0, /* 16 times 8 */
     SPINDLEWREN_HIGH = 128, /* 8 */
@@ -162,7 +162,8 @@ enum {
     SPINDLEWREN_STL_ABOVE = 8,      /* some STL above 684 */
     SPINDLEWREN_FL_DIFFERS = 9,     /* FL differs from the formula */
     SPINDLEWREN_FL_ABOVE = 10,      /* FL above 1,532 */
-    SPINDLEWREN_TOO_WIDE = 12,      /* a value wider than its field: a lock byte or a `more` above 1, an STL of 1,024 or more; a sheet that cannot go on */
+    SPINDLEWREN_TOO_WIDE = 12,      /* a value wider than its field: a lock byte, a `more` or a flag of signalling's state above 1, an STL of 1,024 or more; a sheet that cannot go on;
+                                       leased lines: no such variant, a level above 3 */
     SPINDLEWREN_NO_SUCH_STREAM = 13, /* stream index not below NST */
     SPINDLEWREN_BAD_ITEM = 20,      /* a tag item runs past the packet, is no whole number of bytes, or is a stream of no whole number of words */
     SPINDLEWREN_MANAGEMENT_ITEM = 21, /* management item missing, repeated, or of another length than it calls for */

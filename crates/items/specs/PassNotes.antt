@@ -1,4 +1,4 @@
--- What one pass over a packet notes: for each name, how often its item was met, and where the last one's value lies.
+-- What one pass over a packet notes: for each name, how often its item was met, and, of one that was met once, where its value lies.
 -- Assumes nothing.
 use mathlib.Core.Bool.{Bool, false, not, _&&_, _||_}
 use mathlib.Core.List.{List, [], _∷_}

@@ -12,8 +12,8 @@ struct Seen {
     len: usize,
 }
 
-// The whole pass, for management, streams 1 to 64 and all others: how often the item was met (none, once, 2 for several), and where the last one's value
-// lies; and the highest stream number. Nothing of them is known where an item is bad.
+// The whole pass, for management, streams 1 to 64 and all others: how often the item was met (none, once, 2 for several), and, of one met once, where
+// its value lies; and the highest stream number. Nothing of them is known where an item is bad.
 pub struct Notes {
     pub broken: bool,
     pub highest: usize,
