@@ -162,7 +162,7 @@ enum {
     SPINDLEWREN_STL_ABOVE = 8,      /* some STL above 684 */
     SPINDLEWREN_FL_DIFFERS = 9,     /* FL differs from the formula */
     SPINDLEWREN_FL_ABOVE = 10,      /* FL above 1,532 */
-    SPINDLEWREN_TOO_WIDE = 12,      /* a value wider than its field: a lock byte or a `more` above 1, an STL of 1,024 or more; a sheet that cannot go on */
+    SPINDLEWREN_TOO_WIDE = 12,      /* a value wider than its field: a lock byte or a `more` above 1, a flag of signalling above 1, an STL of 1,024 or more; of a leased line another variant, or a level above 3; a sheet that cannot go on */
     SPINDLEWREN_NO_SUCH_STREAM = 13, /* stream index not below NST */
     SPINDLEWREN_BAD_ITEM = 20,      /* a tag item runs past the packet, is no whole number of bytes, or is a stream of no whole number of words */
     SPINDLEWREN_MANAGEMENT_ITEM = 21, /* management item missing, repeated, or of another length than it calls for */
