@@ -61,21 +61,15 @@ static void at_end(const struct listing *l, unsigned long long place) {
 static void line(const uint8_t *item, const uint8_t *walk, void *to) {
     struct listing *l = to;
     uint64_t place = spindlewren_number(walk, SPINDLEWREN_ITEM, 8);
-    unsigned kind = walk[SPINDLEWREN_KIND], code = walk[SPINDLEWREN_NUMBER], level = 0;
-    uint8_t answer[SPINDLEWREN_ANSWER];
+    unsigned kind = walk[SPINDLEWREN_KIND], code = kind == SPINDLEWREN_IS_FRAME ? walk[SPINDLEWREN_ITEM_FCT] : walk[SPINDLEWREN_NUMBER];
+    (void)item;
     if (kind == SPINDLEWREN_IS_DONE) {
         at_end(l, place);
         return;
     }
-    if (kind == SPINDLEWREN_IS_FRAME) {
-        /* a frame that the walk hands out is accepted */
-        spindlewren_read(item, SPINDLEWREN_FRAME, answer, sizeof answer);
-        code = answer[SPINDLEWREN_FCT];
-        level = answer[SPINDLEWREN_LEVEL];
-    }
     l->lost += kind == SPINDLEWREN_IS_LOST;
-    if (l->json) as_json(place, kind, code, level);
-    else as_text(l, place, kind, code, level);
+    if (l->json) as_json(place, kind, code, walk[SPINDLEWREN_ITEM_LEVEL]);
+    else as_text(l, place, kind, code, walk[SPINDLEWREN_ITEM_LEVEL]);
 }
 
 void list(const struct request *asked) {

@@ -11,14 +11,12 @@ static void keep(const uint8_t *item, const uint8_t *walk, void *to) {
     struct logging *l = to;
     size_t place = (size_t)spindlewren_number(walk, SPINDLEWREN_ITEM, 8);
     uint8_t kind = walk[SPINDLEWREN_KIND], code = walk[SPINDLEWREN_NUMBER], level = 0xFF;
-    uint8_t answer[SPINDLEWREN_ANSWER], bytes[SPINDLEWREN_LOG_RECORD];
-    uint8_t refusal;
+    uint8_t bytes[SPINDLEWREN_LOG_RECORD], refusal;
+    (void)item;
     if (kind == SPINDLEWREN_IS_DONE) return;
     if (kind == SPINDLEWREN_IS_FRAME) {
-        /* a frame that the walk hands out is accepted */
-        spindlewren_read(item, SPINDLEWREN_FRAME, answer, sizeof answer);
-        code = answer[SPINDLEWREN_FCT];
-        level = answer[SPINDLEWREN_LEVEL];
+        code = walk[SPINDLEWREN_ITEM_FCT];
+        level = walk[SPINDLEWREN_ITEM_LEVEL];
     }
     /* never refused, by proof */
     refusal = spindlewren_log_write(place, kind, code, level, bytes, sizeof bytes);

@@ -15,7 +15,7 @@ enum {
     SPINDLEWREN_FRAME = 6144,
     SPINDLEWREN_ANSWER = 406, /* spindlewren_read */
     SPINDLEWREN_PART = 4,     /* spindlewren_fic, spindlewren_stream */
-    SPINDLEWREN_WALK = 21,    /* spindlewren_begin, spindlewren_step, spindlewren_live */
+    SPINDLEWREN_WALK = 23,    /* spindlewren_begin, spindlewren_step, spindlewren_live */
     SPINDLEWREN_LOOKS = 8,    /* spindlewren_looks */
     SPINDLEWREN_WHY = 10,     /* spindlewren_why */
     SPINDLEWREN_COLLISION = 3, /* spindlewren_collision */
@@ -71,7 +71,9 @@ enum {
     SPINDLEWREN_LIMIT = 10,  /* of misses, 1 to 8 */
     SPINDLEWREN_KIND = 11,
     SPINDLEWREN_NUMBER = 12, /* the refusal number of a lost mark, 4 of an idle item, else 0 */
-    SPINDLEWREN_ITEM = 13    /* 8: the item's place */
+    SPINDLEWREN_ITEM = 13,   /* 8: the item's place */
+    SPINDLEWREN_ITEM_FCT = 21,  /* of a frame, else 0 */
+    SPINDLEWREN_ITEM_LEVEL = 22 /* of a frame, as reading hands it on, else 0 */
 };
 
 /* What spindlewren_collision tells: the profile's number, and the places in the table of the streams that it is about. */

@@ -13,7 +13,7 @@ function lay(values, counts, from,    v, c, n, i) {
     n = split(values, v, / ∷ /) - 1
     split(counts, c, / ∷ /)
     for (i = 1; i <= n; i++) {
-        print "at", name(v[i]), from, c[i]
+        print "at", prefix name(v[i]), from, c[i]
         from += c[i]
     }
     return from
@@ -27,7 +27,9 @@ function number(piece, from,    counts, values) {
 { left = $0; sub(/^.* = /, "", left) }
 /^(first|second|third|stream|marks|why)Values .* = / || /^(first|second|third|stream|marks|why)Counts = / { is[$1] = left }
 /^partBytes .* = / { print "whole PART", number(left, 0) }
-/^toldBytes .* = / { steps = left }
+/^toldBytes .* =$/ { telling = 1; steps = ""; next }
+telling && /^ / { sub(/^ +/, steps == "" ? "" : " "); steps = steps $0; next }
+telling { telling = 0 }
 FILENAME !~ /Writing/ {
     for (rest = $0; match(rest, /\([0-9]+ when /); rest = substr(rest, RSTART + RLENGTH)) print "number", substr(rest, RSTART + 1, RLENGTH - 7)
 }
@@ -39,6 +41,9 @@ END {
     print "whole ANSWER", table + 64 * entry
     split(steps, piece, / \+\+ /)
     at = lay(is["marksValues"], is["marksCounts"], number(piece[1], 0))
-    print "whole WALK", number(piece[3], at)
+    at = number(piece[3], at)
+    prefix = "ITEM_" # the answer has FCT and LEVEL too
+    print "whole WALK", number(piece[4], at)
+    prefix = ""
     print "whole WHY", lay(is["whyValues"], is["whyCounts"], 0)
 }

@@ -131,6 +131,7 @@ static void line(const uint8_t *record, const uint8_t *walk, char *text, size_t 
     } else {
         hold(spindlewren_read(record + place, SPINDLEWREN_FRAME, answer, sizeof answer) == 0, "frame handed out", place);
         snprintf(text, size, "%lu frame %u %u\n", place, answer[SPINDLEWREN_FCT], answer[SPINDLEWREN_LEVEL]);
+        hold(walk[SPINDLEWREN_ITEM_FCT] == answer[SPINDLEWREN_FCT] && walk[SPINDLEWREN_ITEM_LEVEL] == answer[SPINDLEWREN_LEVEL], "FCT and level of the item", place);
     }
 }
 
@@ -203,7 +204,7 @@ static void states(const uint8_t *record, size_t len) {
 
 /* A null pointer with length 0, for the bytes, for the answer and for both: refused with 1; a walk over no record is done where it stands. */
 static void nulls(request *ask, const uint8_t *frame, size_t right) {
-    static const uint8_t done[SPINDLEWREN_WALK] = {0, 0, 0, 0, 0, 0, 0, 7, 2, 1, 3, SPINDLEWREN_IS_DONE, 0, 0, 0, 0, 0, 0, 0, 0, 7};
+    static const uint8_t done[SPINDLEWREN_WALK] = {0, 0, 0, 0, 0, 0, 0, 7, 2, 1, 3, SPINDLEWREN_IS_DONE, 0, 0, 0, 0, 0, 0, 0, 0, 7, 0, 0};
     uint8_t out[SPINDLEWREN_ANSWER];
     memset(out, FILL, sizeof out);
     if (ask == step) memcpy(out, done, SPINDLEWREN_KIND);

@@ -14,13 +14,14 @@ use Rattle.encoded.specs.AnswerBytes.{encode}
 use Rattle.encoded.proofs.Tables.{digit-alone}
 use Rattle.block.specs.WalkBytes.{marksCounts, marksValues, toldBytes}
 
-pub told-stored : (s : State) (kind number item lock : ℕ) (l a b d : List ℕ) → 21 ≤ length l → kind < 256 → number < 256 → lock ≡ digit (s .position .lock)
+pub told-stored : (s : State) (kind number item fct level lock : ℕ) (l a b d e : List ℕ) → 23 ≤ length l → kind < 256 → number < 256 → fct < 256 → level < 256 → lock ≡ digit (s .position .lock)
     → a ≡ put l 0 (split bytes8 (s .position .place))
     → b ≡ put a 8 (s .position .misses % 256 ∷ lock ∷ s .limit % 256 ∷ kind ∷ number ∷ [])
     → d ≡ put b 13 (split bytes8 item)
-    → d ≡ put l 0 (toldBytes s kind number item)
+    → e ≡ put d 21 (fct ∷ level ∷ [])
+    → e ≡ put l 0 (toldBytes s kind number item fct level)
 unfolding toldBytes
-told-stored s kind number item lock l a b d room k n el pa pb pd =
+told-stored s kind number item fct level lock l a b d e room k n f v el pa pb pd pe =
     let A = split bytes8 (s .position .place) in
     let B = s .position .misses % 256 ∷ lock ∷ s .limit % 256 ∷ kind ∷ number ∷ [] in
     let C = split bytes8 item in
@@ -30,4 +31,6 @@ told-stored s kind number item lock l a b d room k n el pa pb pd =
     let marks : B ≡ encode marksCounts (marksValues s kind number) = λ i. misses i ∷ locks i ∷ limit i ∷ sym (alone kind k) i ∷ sym (alone number n) i ∷ [] in
     let p = put-chain l a b 0 8 A B pa pb refl (omega arith) in
     let q = put-chain l b d 0 13 (A ++ B) C p pd refl (omega arith) in
-    q ∙ ap (λ (ms : List ℕ). put l 0 ((A ++ ms) ++ C)) marks
+    let r = put-chain l d e 0 21 ((A ++ B) ++ C) (fct ∷ level ∷ []) q pe refl (omega arith) in
+    let frame : fct ∷ level ∷ [] ≡ encode (1 ∷ 1 ∷ []) (fct ∷ level ∷ []) = λ i. sym (alone fct f) i ∷ sym (alone level v) i ∷ [] in
+    r ∙ (λ i. put l 0 (((A ++ marks i) ++ C) ++ frame i))

@@ -1,4 +1,4 @@
--- A walk's 21 bytes at the C boundary, as docs/BOUNDARY.md lays them out.
+-- A walk's 23 bytes at the C boundary, as docs/BOUNDARY.md lays them out.
 -- Assumes nothing.
 use mathlib.Core.List.{List, [], _∷_, _++_}
 use Prim.Native.Nat.{ℕ}
@@ -7,6 +7,7 @@ use lib.ListN.{getD}
 use Rattle.octets.specs.Words.{eightAt}
 use Rattle.frame.specs.Answers.{digit}
 use Rattle.walk.specs.declared.Item.{Item}
+use Rattle.walk.specs.declared.Item.the-variants.{Frame, Lost, Idle, Done}
 use Rattle.walk.specs.declared.State.{State}
 use Rattle.walk.specs.ItemValues.{kindOf, placeOf, numberOf}
 use Rattle.encoded.specs.AnswerBytes.{encode}
@@ -18,13 +19,30 @@ marksCounts = 1 ∷ 1 ∷ 1 ∷ 1 ∷ 1 ∷ []
 abbrev pub marksValues : State → ℕ → ℕ → List ℕ
 marksValues s kind number = s .position .misses ∷ digit (s .position .lock) ∷ s .limit ∷ kind ∷ number ∷ []
 
--- a walk's 21 bytes: its place, the marks, and the place of what it told last
-unfoldable pub toldBytes : State → ℕ → ℕ → ℕ → List ℕ
-toldBytes s kind number item = encode (8 ∷ []) (s .position .place ∷ []) ++ encode marksCounts (marksValues s kind number) ++ encode (8 ∷ []) (item ∷ [])
+-- a walk's 23 bytes: its place, the marks, the place of what it told last, and a frame's FCT and level
+unfoldable pub toldBytes : State → ℕ → ℕ → ℕ → ℕ → ℕ → List ℕ
+toldBytes s kind number item fct level =
+    encode (8 ∷ []) (s .position .place ∷ [])
+    ++ encode marksCounts (marksValues s kind number)
+    ++ encode (8 ∷ []) (item ∷ [])
+    ++ encode (1 ∷ 1 ∷ []) (fct ∷ level ∷ [])
+
+-- FCT and level of a frame, as reading hands them on; 0 of every other item
+abbrev pub fctOf : Item → ℕ
+fctOf (Frame p h) = h .fct
+fctOf (Lost p n) = 0
+fctOf (Idle p) = 0
+fctOf (Done p) = 0
+
+abbrev pub levelOf : Item → ℕ
+levelOf (Frame p h) = h .level
+levelOf (Lost p n) = 0
+levelOf (Idle p) = 0
+levelOf (Done p) = 0
 
 -- the same of an item
 unfoldable pub stepBytes : Item → State → List ℕ
-stepBytes x s = toldBytes s (kindOf x) (numberOf x) (placeOf x)
+stepBytes x s = toldBytes s (kindOf x) (numberOf x) (placeOf x) (fctOf x) (levelOf x)
 
 -- the state in a walk's bytes
 unfoldable pub stateIn : List ℕ → State

@@ -1,4 +1,4 @@
-// A walk's block of 21 bytes at the C boundary: the state in it read, and a state stored with what it told last.
+// A walk's block of 23 bytes at the C boundary: the state in it read, and a state stored with what it told last.
 ghost use mathlib.Core.List.{[], _∷_};
 ghost use mathlib.Core.Path.{_≡_};
 ghost use Prim.Native.Nat.{_≤_};
@@ -26,7 +26,7 @@ pub fn state_in(walk: &[u8]) -> State
 
 // Misses, lock and limit, and kind and number of what was told, from byte 8 on.
 fn put_marks(out: &mut [u8], misses: u8, lock: u8, limit: u8, kind: u8, number: u8)
-    requires { ⌜ 21 ≤ length (now out) ⌝ }
+    requires { ⌜ 13 ≤ length (now out) ⌝ }
     ensures { λ _. ⌜ now (out .exit) ≡ put (now (out .entry)) 8 (misses ∷ lock ∷ limit ∷ kind ∷ number ∷ []) ⌝ }
 {
     out[8] = misses;
@@ -36,11 +36,28 @@ fn put_marks(out: &mut [u8], misses: u8, lock: u8, limit: u8, kind: u8, number: 
     out[12] = number;
 }
 
-// The state in eleven bytes, and what it told last in ten: its kind, number and place. They are stored only where there is room for all of them.
-pub fn put_told(out: &mut [u8], walk: State, kind: u8, number: u8, item: usize)
-    ensures { λ _. ⌜ now (out .exit) ≡ put (now (out .entry)) 0 (toldBytes walk kind number item) ⌝ }
+// FCT and level of a frame that was told, from byte 21 on.
+fn put_frame(out: &mut [u8], fct: u8, level: u8)
+    requires { ⌜ 23 ≤ length (now out) ⌝ }
+    ensures { λ _. ⌜ now (out .exit) ≡ put (now (out .entry)) 21 (fct ∷ level ∷ []) ⌝ }
 {
-    if out.len() < 21 {
+    out[21] = fct;
+    out[22] = level;
+}
+
+// The state in eleven bytes, and what it told last in twelve: its kind, number and place, and a frame's FCT and level. They are stored only where there is room for all of them.
+pub fn put_told(
+    out: &mut [u8],
+    walk: State,
+    kind: u8,
+    number: u8,
+    item: usize,
+    fct: u8,
+    level: u8,
+)
+    ensures { λ _. ⌜ now (out .exit) ≡ put (now (out .entry)) 0 (toldBytes walk kind number item fct level) ⌝ }
+{
+    if out.len() < 23 {
         return;
     }
     let position = walk.position;
@@ -50,6 +67,7 @@ pub fn put_told(out: &mut [u8], walk: State, kind: u8, number: u8, item: usize)
     putting::put8(out, 0, position.place);
     put_marks(out, misses, lock, limit, kind, number);
     putting::put8(out, 13, item);
+    put_frame(out, fct, level);
 }
 
 // The same of an item.
@@ -57,9 +75,9 @@ pub fn put_item(out: &mut [u8], walk: State, item: Item)
     ensures { λ _. ⌜ now (out .exit) ≡ put (now (out .entry)) 0 (stepBytes item walk) ⌝ }
 {
     match item {
-        Item::Frame(p, _) => put_told(out, walk, 0, 0, p),
-        Item::Lost(p, n) => put_told(out, walk, 1, n, p),
-        Item::Idle(p) => put_told(out, walk, 2, 4, p),
-        Item::Done(p) => put_told(out, walk, 3, 0, p),
+        Item::Frame(p, h) => put_told(out, walk, 0, 0, p, h.fct, h.level),
+        Item::Lost(p, n) => put_told(out, walk, 1, n, p, 0, 0),
+        Item::Idle(p) => put_told(out, walk, 2, 4, p, 0, 0),
+        Item::Done(p) => put_told(out, walk, 3, 0, p, 0, 0),
     }
 }

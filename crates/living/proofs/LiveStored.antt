@@ -37,13 +37,13 @@ module _ (s : State) (n : ℕ) (more : Bool) (near : s .position .place + n < fa
       let m = sym (wants-lock more (s .limit) (s .position .misses) (s .position .lock) k e asked z l) ∙ few in
       now-is m (lock-waits w s (record { near = omega arith; wanted = wants-now more _ _ _ m; locked = l }) (omega arith))
 
-pub waiting-left : (l a : List ℕ) (s : State) → length l ≡ 21 → a ≡ put l 0 (toldBytes s 4 0 (s .position .place)) → a ≡ heldBy (waitingAt 0 s)
+pub waiting-left : (l a : List ℕ) (s : State) → length l ≡ 23 → a ≡ put l 0 (toldBytes s 4 0 (s .position .place) 0 0) → a ≡ heldBy (waitingAt 0 s)
 unfolding liveBytes toldBytes waitingAt waiting later
 waiting-left l a s o p =
     let e : s .position .place ≡ 0 + s .position .place = omega arith in
-    p ∙ put-all l _ (sym o) ∙ ap (λ (q : ℕ). toldBytes (placedAt q s) 4 0 q) e
+    p ∙ put-all l _ (sym o) ∙ ap (λ (q : ℕ). toldBytes (placedAt q s) 4 0 q 0 0) e
 
-pub live-left : (l a : List ℕ) (t : Told) (s : State) → length l ≡ 21 → a ≡ put l 0 (liveBytes t s) → a ≡ liveBytes t s
+pub live-left : (l a : List ℕ) (t : Told) (s : State) → length l ≡ 23 → a ≡ put l 0 (liveBytes t s) → a ≡ liveBytes t s
 unfolding liveBytes toldBytes
 live-left l a t s o p = p ∙ put-all l _ (sym o)
 

@@ -7,7 +7,7 @@ use lib.ListN.{getD}
 use Rattle.frame.specs.Rules.{_when_, first}
 use Rattle.walk.specs.declared.State.{State}
 use Rattle.walk.specs.ItemValues.{kindOf, placeOf, numberOf}
-use Rattle.block.specs.WalkBytes.{toldBytes, stateIn}
+use Rattle.block.specs.WalkBytes.{toldBytes, fctOf, levelOf, stateIn}
 use Rattle.live.specs.declared.LiveStep.{LiveStep}
 use Rattle.live.specs.declared.Told.{Told}
 use Rattle.live.specs.declared.Told.the-variants.{Got, More}
@@ -30,9 +30,18 @@ abbrev pub toldPlace : Told → ℕ
 toldPlace (Got x) = placeOf x
 toldPlace (More p) = p
 
--- a walk's 21 bytes, as of every walk
+-- a frame's FCT and level
+abbrev pub toldFct : Told → ℕ
+toldFct (Got x) = fctOf x
+toldFct (More p) = 0
+
+abbrev pub toldLevel : Told → ℕ
+toldLevel (Got x) = levelOf x
+toldLevel (More p) = 0
+
+-- a walk's 23 bytes, as of every walk
 unfoldable pub liveBytes : Told → State → List ℕ
-liveBytes t s = toldBytes s (toldKind t) (toldNumber t) (toldPlace t)
+liveBytes t s = toldBytes s (toldKind t) (toldNumber t) (toldPlace t) (toldFct t) (toldLevel t)
 
 abbrev pub heldBy : LiveStep → List ℕ
 heldBy r = liveBytes (r .told) (r .walk)

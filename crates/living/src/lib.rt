@@ -44,13 +44,13 @@ fn waits(state: State, n: usize, more: bool) -> bool
     misses < limit
 }
 
-// The advanced walk in eleven bytes, and what is told in ten.
+// The advanced walk in eleven bytes, and what is told in twelve.
 fn put_live(out: &mut [u8], walk: State, told: Told)
     ensures { λ _. ⌜ now (out .exit) ≡ put (now (out .entry)) 0 (liveBytes told walk) ⌝ }
 {
     match told {
         Told::Got(item) => block::put_item(out, walk, item),
-        Told::More(q) => block::put_told(out, walk, 4, 0, q),
+        Told::More(q) => block::put_told(out, walk, 4, 0, q, 0, 0),
     }
 }
 
@@ -58,9 +58,9 @@ fn put_live(out: &mut [u8], walk: State, told: Told)
 // bytes of another length, then 12 for a lock or a `more` above 1; refused, not one byte is written.
 #[no_mangle]
 pub extern "C" fn spindlewren_live(window: &[u8], more: u8, walk: &mut [u8]) -> u8
-    ensures { λ r. ⌜ Boundary.Told 21 (liveRefusalOf more (now (walk .entry))) (lineOf (now (window .entry)) more (now (walk .entry))) (now (walk .entry)) (now (walk .exit)) r ⌝ }
+    ensures { λ r. ⌜ Boundary.Told 23 (liveRefusalOf more (now (walk .entry))) (lineOf (now (window .entry)) more (now (walk .entry))) (now (walk .entry)) (now (walk .exit)) r ⌝ }
 {
-    if walk.len() != 21 {
+    if walk.len() != 23 {
         return 1;
     }
     if walk[9] > 1 {
@@ -72,7 +72,7 @@ pub extern "C" fn spindlewren_live(window: &[u8], more: u8, walk: &mut [u8]) -> 
     let state = block::state_in(walk);
     if waits(state, window.len(), more == 1) {
         let place = state.position.place;
-        block::put_told(walk, state, 4, 0, place);
+        block::put_told(walk, state, 4, 0, place, 0, 0);
         return 0;
     }
     let step = live::step(state, window, more == 1);

@@ -56,11 +56,11 @@ pub begun-begins : (m : ℕ) → stateIn (begunBytes m) ≡ start m
 unfolding stateIn begunBytes
 begun-begins m = refl
 
-pub zero-done : (bytes : List ℕ) → walkOf bytes (replicate 21 0) ≡ stepBytes (Done 0) (start 0)
+pub zero-done : (bytes : List ℕ) → walkOf bytes (replicate 23 0) ≡ stepBytes (Done 0) (start 0)
 unfolding stateIn stepWith
 zero-done bytes = ap leftBy (done-there bytes (start 0) (inl (λ ok. let h = ok .0 in omega arith)))
 
-left-whole : (r : Step) → length (leftBy r) ≡ 21
+left-whole : (r : Step) → length (leftBy r) ≡ 23
 unfolding stepBytes toldBytes
 left-whole r = refl
 
@@ -89,12 +89,12 @@ module _ (bytes : List ℕ) (long : length bytes < 2 ^ 64) where
   step-held s h = record { place = place-held s (h .place); misses = few-misses bytes s (h .misses); limit = rw (limit-kept bytes s) (h .limit) }
 
   -- a call on a walk's bytes is accepted, and leaves what the step hands back
-  called : (w left : List ℕ) (r : ℕ) → length w ≡ 21 → getD w 9 0 ≤ 1 → Told 21 (stateRefusalOf w) (walkOf bytes w) w left r → (r ≡ 0) × (left ≡ walkOf bytes w)
+  called : (w left : List ℕ) (r : ℕ) → length w ≡ 23 → getD w 9 0 ≤ 1 → Told 23 (stateRefusalOf w) (walkOf bytes w) w left r → (r ≡ 0) × (left ≡ walkOf bytes w)
   called w left r whole lock t =
-      let z : lentRefusal 21 (length w) (stateRefusalOf w) ≡ 0 = rw (eq-eqb (length w) 21 whole) (sym (lock-fits w lock)) in
-      (t .number ∙ z, t .answer ∙ (rw (eq-eqb (lentRefusal 21 (length w) (stateRefusalOf w)) 0 z)))
+      let z : lentRefusal 23 (length w) (stateRefusalOf w) ≡ 0 = rw (eq-eqb (length w) 23 whole) (sym (lock-fits w lock)) in
+      (t .number ∙ z, t .answer ∙ (rw (eq-eqb (lentRefusal 23 (length w) (stateRefusalOf w)) 0 z)))
 
-  calls-are : (w : List ℕ) (ws : List (List ℕ)) (s : State) → stateIn w ≡ s → Held s → length w ≡ 21 → getD w 9 0 ≤ 1 → Called bytes w ws
+  calls-are : (w : List ℕ) (ws : List (List ℕ)) (s : State) → stateIn w ≡ s → Held s → length w ≡ 23 → getD w 9 0 ≤ 1 → Called bytes w ws
       → ws ≡ map leftBy (callsAt bytes (length ws) s)
   unfolding callsAt
   calls-are w [] s e h whole lock none = refl
@@ -106,8 +106,8 @@ module _ (bytes : List ℕ) (long : length bytes < 2 ^ 64) where
       let later = calls-are left ws (r .walk) back k (ap length l ∙ left-whole r) (subst (λ (v : List ℕ). getD v 9 0 ≤ 1) (sym l) (left-lock r)) rest in
       λ i. l i ∷ later i
 
-  -- over any 21 bytes with a lock byte of 0 or 1, and over those of a walk begun: the calls leave what repeated steps hand back, items and states
-  pub calls-are-steps : (w : List ℕ) (ws : List (List ℕ)) → length w ≡ 21 → Bytes w → getD w 9 0 ≤ 1 → Called bytes w ws
+  -- over any 23 bytes with a lock byte of 0 or 1, and over those of a walk begun: the calls leave what repeated steps hand back, items and states
+  pub calls-are-steps : (w : List ℕ) (ws : List (List ℕ)) → length w ≡ 23 → Bytes w → getD w 9 0 ≤ 1 → Called bytes w ws
       → ws ≡ map leftBy (callsAt bytes (length ws) (stateIn w))
   unfolding stateIn
   calls-are-steps w ws whole b lock c =

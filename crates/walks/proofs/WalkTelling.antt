@@ -17,12 +17,12 @@ use Rattle.block.specs.WalkBytes.{toldBytes, stepBytes}
 use Rattle.walks.specs.WalkCalls.{begunBytes, stateRefusalOf, Limited}
 
 -- ---- the walk's bytes
-pub step-left : (l a : List ℕ) (x : Item) (s : State) → length l ≡ 21 → a ≡ put l 0 (stepBytes x s) → a ≡ stepBytes x s
+pub step-left : (l a : List ℕ) (x : Item) (s : State) → length l ≡ 23 → a ≡ put l 0 (stepBytes x s) → a ≡ stepBytes x s
 unfolding stepBytes toldBytes
 step-left l a x s o p = p ∙ put-all l _ (sym o)
 
 -- a walk begun, with an allowed limit
-pub begun-left : (l a : List ℕ) (m r : ℕ) → length l ≡ 21 → r ≡ limitRefusalOf m → r ≡ 0 → a ≡ put l 0 (toldBytes (start m) 0 0 0) → a ≡ begunBytes m
+pub begun-left : (l a : List ℕ) (m r : ℕ) → length l ≡ 23 → r ≡ limitRefusalOf m → r ≡ 0 → a ≡ put l 0 (toldBytes (start m) 0 0 0 0 0) → a ≡ begunBytes m
 unfolding toldBytes begunBytes
 begun-left l a m r o e z p =
     let ok = allowed-is m (number-allowed m (sym e ∙ z)) in

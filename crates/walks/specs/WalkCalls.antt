@@ -1,4 +1,4 @@
--- The walk from C: what begins one, what a step leaves in its 21 bytes, and calls one after another.
+-- The walk from C: what begins one, what a step leaves in its 23 bytes, and calls one after another.
 -- Assumes nothing.
 use mathlib.Core.List.{List, [], _∷_, _++_}
 use mathlib.Core.Path.{_≡_}
@@ -21,7 +21,7 @@ walkOf bytes w = leftBy (stepAt bytes (stateIn w))
 
 -- a walk begun with limit m: all zero but the limit
 unfoldable pub begunBytes : ℕ → List ℕ
-begunBytes m = replicate 10 0 ++ (m ∷ replicate 10 0)
+begunBytes m = replicate 10 0 ++ (m ∷ replicate 12 0)
 
 -- the lock is one bit: above 1 it is a value wider than its field
 unfoldable pub stateRefusalOf : List ℕ → ℕ
@@ -35,4 +35,4 @@ pub record Limited (m n : ℕ) (bytes was left : List ℕ) (r : ℕ) : Type 0 wh
 -- ---- a walk from C: the bytes that calls of the step leave, one after another; each call is lent the bytes that the call before it left
 pub data Called (bytes : List ℕ) : List ℕ → List (List ℕ) → Type 0 where
   none : {w : List ℕ} → Called bytes w []
-  more : {w left : List ℕ} {r : ℕ} {ws : List (List ℕ)} → Told 21 (stateRefusalOf w) (walkOf bytes w) w left r → Called bytes left ws → Called bytes w (left ∷ ws)
+  more : {w left : List ℕ} {r : ℕ} {ws : List (List ℕ)} → Told 23 (stateRefusalOf w) (walkOf bytes w) w left r → Called bytes left ws → Called bytes w (left ∷ ws)

@@ -9,9 +9,9 @@ use walk::Step;
 // A step of the walk whose state is in the lent bytes: they then hold the advanced walk and its item. Any bytes are taken.
 #[no_mangle]
 pub extern "C" fn spindlewren_step(bytes: &[u8], walk: &mut [u8]) -> u8
-    ensures { λ r. ⌜ Told 21 (stateRefusalOf (now (walk .entry))) (walkOf (now (bytes .entry)) (now (walk .entry))) (now (walk .entry)) (now (walk .exit)) r ⌝ }
+    ensures { λ r. ⌜ Told 23 (stateRefusalOf (now (walk .entry))) (walkOf (now (bytes .entry)) (now (walk .entry))) (now (walk .entry)) (now (walk .exit)) r ⌝ }
 {
-    if walk.len() != 21 {
+    if walk.len() != 23 {
         return 1;
     }
     if walk[9] > 1 {
@@ -28,13 +28,13 @@ pub extern "C" fn spindlewren_step(bytes: &[u8], walk: &mut [u8]) -> u8
 // A walk begun with a limit of misses: 27 for a limit outside 1 to 8, then 1 for walk's bytes of another length.
 #[no_mangle]
 pub extern "C" fn spindlewren_begin(limit: usize, walk: &mut [u8]) -> u8
-    ensures { λ r. ⌜ Limited limit 21 (begunBytes limit) (now (walk .entry)) (now (walk .exit)) r ⌝ }
+    ensures { λ r. ⌜ Limited limit 23 (begunBytes limit) (now (walk .entry)) (now (walk .exit)) r ⌝ }
 {
     let refusal = walk::limit_refusal(limit);
     if refusal != 0 {
         return refusal;
     }
-    if walk.len() != 21 {
+    if walk.len() != 23 {
         return 1;
     }
     let position = Position {
@@ -42,6 +42,6 @@ pub extern "C" fn spindlewren_begin(limit: usize, walk: &mut [u8]) -> u8
         misses: 0,
         lock: false,
     };
-    block::put_told(walk, State { limit, position }, 0, 0, 0);
+    block::put_told(walk, State { limit, position }, 0, 0, 0, 0, 0);
     0
 }

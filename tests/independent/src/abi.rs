@@ -12,7 +12,9 @@ pub const FIELDS: usize = 401;
 /// A walk's bytes are its state's and behind them its item's, the kind first.
 pub const STATE: usize = 11;
 pub const ITEM: usize = 10;
-pub const WALK: usize = STATE + ITEM;
+/// .. and a frame's FCT and level.
+pub const TOLD: usize = ITEM + 2;
+pub const WALK: usize = STATE + TOLD;
 pub const KIND: usize = STATE;
 pub const SIGNAL: usize = 24;
 pub const LOOKS: usize = 8;
@@ -366,11 +368,21 @@ pub fn state_bytes(state: State) -> Vec<u8> {
 
 /// A walk's bytes before its first step, with no item yet.
 pub fn begun_bytes(state: State) -> Vec<u8> {
-    [state_bytes(state), vec![0; ITEM]].concat()
+    [state_bytes(state), vec![0; TOLD]].concat()
 }
 
 pub fn walk_bytes(item: &Item, state: State) -> Vec<u8> {
-    [state_bytes(state), item_bytes(item)].concat()
+    [state_bytes(state), told_bytes(item)].concat()
+}
+
+/// What a step tells: the item, and a frame's FCT and level.
+pub fn told_bytes(item: &Item) -> Vec<u8> {
+    let mut bytes = item_bytes(item);
+    bytes.extend(match item {
+        Item::Frame(_, reading) => [reading.header.fct, reading.header.level],
+        _ => [0, 0],
+    });
+    bytes
 }
 
 pub fn item_bytes(item: &Item) -> Vec<u8> {

@@ -54,7 +54,7 @@ impl Case<'_> {
             }
             let (item, next) = step(record, state);
             self.tally.line_items += 1;
-            self.same(&what, &&walk[abi::KIND..], &&abi::item_bytes(&item)[..])?;
+            self.same(&what, &&walk[abi::KIND..], &&abi::told_bytes(&item)[..])?;
             self.same(
                 &what,
                 &(after.misses, after.lock, after.limit),
