@@ -5,7 +5,7 @@ use mathlib.Core.List.{List, [], _∷_}
 use mathlib.Core.Path.{_≡_, refl, _∙_}
 use Prim.Native.Nat.{ℕ, zero, suc, _+_, _≤_, _<_}
 use native.Mathlib.Omega.{arith}
-use borrow.Author.Tests.{ne-eqb}
+use borrow.Author.Tests.{ne-eqb, eqb-true}
 use lib.Dec.{eqb}
 use lib.ListN.{length, getD}
 use Rattle.sum.specs.Sum.{digit}
@@ -54,6 +54,21 @@ one-code (suc zero) (suc (suc (suc (suc (suc (suc (suc (suc (suc (suc (suc c))))
     let q = code-le (suc (suc (suc (suc (suc (suc (suc (suc (suc (suc (suc c))))))))))) v a in absurd (omega arith)
 one-code (suc (suc k)) c v a = rw (ne-eqb (suc (suc k)) 1 (λ (e : suc (suc k) ≡ 1). omega arith))
 
+-- and none of the other three
+none-of : (k c v m : ℕ) → lostCode m ≡ false → allowed k c v ≡ true → digit (eqb k 1 && eqb c m) ≡ 0
+none-of zero c v m h a = refl
+none-of (suc zero) c v m h a = go (eqb c m) refl
+  where
+    go : (b : Bool) → eqb c m ≡ b → digit (eqb c m) ≡ 0
+    go true e = let p = eqb-true c m e in absurd (no-code c v (rw p h) a)
+    go false e = rw e
+none-of (suc (suc k)) c v m h a = rw (ne-eqb (suc (suc k)) 1 (λ (e : suc (suc k) ≡ 1). omega arith))
+
+uncounted : (m : ℕ) → lostCode m ≡ false → (es : List Entry) → AllAllowed es → count (lostBy m) es ≡ 0
+unfolding count
+uncounted m h [] a = refl
+uncounted m h (e ∷ es) a = omega (arith, none-of (e .kind) (e .code) (e .level) m h (a .0), uncounted m h es (a .1))
+
 levels : (es : List Entry) → AllAllowed es → count (frameAt 0) es + count (frameAt 1) es + count (frameAt 2) es + count (frameAt 3) es ≡ count isFrame es
 unfolding count
 levels [] a = refl
@@ -77,6 +92,12 @@ module _ (es : List Entry) (a : AllAllowed es) where
   pub lost-in : total 6 + total 7 + total 9 + total 10 + total 11 + total 12 + total 13 + total 14 ≡ count isLost es
   lost-in =
       rw (lost-by es a 2 (omega arith), lost-by es a 3 (omega arith), lost-by es a 5 (omega arith), lost-by es a 6 (omega arith), lost-by es a 7 (omega arith), lost-by es a 8 (omega arith), lost-by es a 9 (omega arith), lost-by es a 10 (omega arith)) (codes es a)
+
+  -- rows 4, 5 and 8 count nothing
+  pub rows-empty : (total 4 ≡ 0) × (total 5 ≡ 0) × (total 8 ≡ 0)
+  unfolding lostCode
+  rows-empty =
+      (lost-by es a 0 (omega arith) ∙ uncounted 0 refl es a, lost-by es a 1 (omega arith) ∙ uncounted 1 refl es a, lost-by es a 4 (omega arith) ∙ uncounted 4 refl es a)
 
 -- of an accepted log: frames at the four levels, lost marks of the eight refusals, and idle items
 pub sheet-adds-up : (l : List ℕ) → logRefusalOf l ≡ 0 → (t : List ℕ) → t ≡ sheetOf (entriesOf l) .totals
