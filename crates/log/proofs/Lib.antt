@@ -1,4 +1,5 @@
 pub mod Accepted
 pub mod Judged
+pub mod LogWritten
 pub mod Recorded
 pub mod Returned

@@ -1,3 +1,4 @@
+pub mod AddingUp
 pub mod Gaps
 pub mod GoingOn
 pub mod RowsMean

@@ -48,7 +48,7 @@ pub frame-parts : (c v : ℕ) → allowed 0 c v ≡ true → (c ≤ 249) × (v �
 unfolding allowed
 frame-parts c v h = let p = both (leb c 249) (leb v 3) h in (leb-true c 249 (p .0), leb-true v 3 (p .1))
 
-code-le : (c v : ℕ) → allowed 1 c v ≡ true → c ≤ 10
+pub code-le : (c v : ℕ) → allowed 1 c v ≡ true → c ≤ 10
 unfolding allowed lostCode
 code-le c v h = leb-true c 10 (both (leb c 10) _ (both (leb 2 c) _ (both (eqb v 0xFF) _ h .1) .1) .0)
 
