@@ -19,7 +19,7 @@ use Rattle.array.proofs.Cells.{placed, held}
 use Rattle.array.proofs.Filling.{list-at, list-length, list-same, list-all}
 use Rattle.array.proofs.Sending.{Array, received-at, array-of-at, array-back}
 
--- what comes back of the information: all that the variant carries, FF from its last byte on
+-- what comes back of the information: all that the variant carries, FF behind its last byte
 abbrev pub filled : ℕ → List ℕ → List ℕ
 filled w information = list (λ n. getD information n 0xFF) (carried w)
 
@@ -123,7 +123,7 @@ module _ {w : ℕ} (W : Wide w) (p : Parts) (S : Sized w p) where
   unfolding outputAt
   signalling-at q e = rw (e)
 
-  -- out, then back: every part, and the information with FF from its last byte on
+  -- out, then back: every part, and the information with FF behind its last byte
   pub out-back : partsOf w (outputOf w p) ≡ record { information = filled w (p .information); management = p .management; supervision = p .supervision; synchronising = p .synchronising; signalling = p .signalling; check = p .check }
   unfolding partsOf outputOf
   out-back =

@@ -55,7 +55,7 @@ indexAt w i j =
     (i / 8 * superblock w + i % 2 * upperRow w + (j - 1) - j / 30)
     (i / 8 * superblock w + i % 8 * w + j - 16)
 
--- C_i,j. Management and supervision stand by superblock, then block. Information is FF from its last byte on
+-- C_i,j. Management and supervision stand by superblock, then block. Information is FF behind its last byte
 unfoldable pub contents : ℕ → Parts → ℕ → ℕ → ℕ
 contents w p i j =
     pick (ltb j w)

@@ -59,7 +59,8 @@ standingIn w (suc n) p = pick (eqb (refusalOf (part w p)) 0) p (standingIn w n (
 unfoldable pub standing : List ℕ → ℕ → ℕ
 standing w p = standingIn w (suc (length w) - (p + 6144)) p
 
--- how many bytes of a window that shows no item may be forgotten: in lock none; hunting, with two periods there, all before the first place that may yet be confirmed: it stands, or its period is not there, and the period after it is not there
+-- how many bytes of a window that shows no item may be forgotten: in lock none; hunting, with two periods there, all before the first place that may yet be confirmed.
+-- From length - 12,287 on the period after a place is not all there; the first of these places that stands, or whose own period is not all there, is that place
 unfoldable pub spare : List ℕ → Bool → ℕ
 spare w lock = pick lock 0 (pick (leb 12288 (length w)) (standing w (length w - 12287)) 0)
 

@@ -143,7 +143,7 @@ fn first_standing(window: &[u8], from: usize) -> usize
     p
 }
 
-// Hunting, while more may come: no place is confirmed before two periods from it are there, and none that does not stand. Where all from the first that stands on have been looked at, the hunt goes on at the first of which two periods are not there yet.
+// Hunting, while more may come: no place is confirmed before two periods from it are there, and none that does not stand. Where all from the first that stands on have been looked at, the hunt goes on at the first that stands of those whose two periods are not there yet.
 fn hunting(walk: State, window: &[u8]) -> LiveStep
     requires { ⌜ Hunts walk (now window) ⌝ }
     ensures { λ r. ⌜ r ≡ liveAt (now (window .entry)) true walk ⌝ }
