@@ -11,7 +11,7 @@ use lib.ListN.{length}
 use borrow.Author.Tests.{eq-eqb, ne-eqb, eqb-true, eqb-false}
 use Rattle.frame.specs.Rules.{refusalOf}
 use Rattle.walk.specs.Records.{part, NoneStands}
-use Rattle.walk.proofs.Stepping.{none-passed, one-passed, then-passed}
+use Rattle.periods.proofs.Passing.{none-passed, one-passed, then-passed}
 use Rattle.live.specs.Live.{standingIn, standing}
 
 module _ (w : List ℕ) where

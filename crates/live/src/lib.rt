@@ -132,13 +132,13 @@ fn first_standing(window: &[u8], from: usize) -> usize
     if n < 6144 {
         return from;
     }
-    let mut p = walk::next_mark(window, from);
+    let mut p = periods::next_mark(window, from);
     while p <= n - 6144 {
         let e = p + 6144;
         if judging::judge(&window[p..e]) == 0 {
             return p;
         }
-        p = walk::next_mark(window, p + 1);
+        p = periods::next_mark(window, p + 1);
     }
     p
 }

@@ -17,7 +17,7 @@ use Rattle.frame.proofs.Accepting.{acceptable}
 use Rattle.frame.proofs.Places.{OneFsync, OneStatus}
 use Rattle.walk.specs.Walk.{begin}
 use Rattle.walk.specs.Records.{part, judged}
-use Rattle.walk.proofs.Marks.{byte-is, fsync-is}
+use Rattle.periods.proofs.Marks.{byte-is, fsync-is}
 use Rattle.looks.specs.Testing.{testsOf}
 use Rattle.looks.proofs.Bounds.{tests-few}
 

@@ -3,9 +3,8 @@ ghost use mathlib.Core.Bool.{true};
 ghost use mathlib.Core.Path.{_≡_};
 ghost use Prim.Native.Nat.{ℕ, _+_, _≤_, _<_};
 ghost use lib.ListN.{length};
-ghost use Rattle.frame.specs.Rules.{refusalOf};
 ghost use Rattle.walk.specs.Walk.{confirmed, hunting, locked};
-ghost use Rattle.walk.specs.Records.{part, judged, fsync1At};
+ghost use Rattle.walk.specs.Records.{judged};
 ghost use Rattle.looks.specs.Testing.{testsOf, countedWith};
 ghost use Rattle.looks.specs.CountClauses.{tally, Stands, Counts};
 use walk::Position;
@@ -22,34 +21,17 @@ struct Tally {
     position: Position,
 }
 
-// The refusal number of the period at p.
-fn judge_at(bytes: &[u8], p: usize) -> u8
-    requires { ⌜ p + 6144 ≤ length (now bytes) ⌝ }
-    ensures { λ r. ⌜ r ≡ refusalOf (part (now (bytes .entry)) p) ⌝ }
-{
-    let e = p + 6144;
-    judging::judge(&bytes[p..e])
-}
-
-fn fsync1_at(bytes: &[u8], p: usize) -> bool
-    requires { ⌜ p + 6144 ≤ length (now bytes) ⌝ }
-    ensures { λ r. ⌜ r ≡ fsync1At (now (bytes .entry)) p ⌝ }
-{
-    let e = p + 6144;
-    judging::is_fsync1(&bytes[p..e])
-}
-
 // Whether the place a period after p, which stands, confirms it.
 fn followed(bytes: &[u8], p: usize) -> bool
     requires { ⌜ Stands (now bytes) p ⌝ }
     ensures { λ r. ⌜ ((limit : ℕ) → r ≡ confirmed (judged limit (now (bytes .entry))) p) ⌝ }
 {
     let q = p + 6144;
-    if judge_at(bytes, q) != 0 {
+    if periods::judge_at(bytes, q) != 0 {
         return false;
     }
-    let t = fsync1_at(bytes, q);
-    if fsync1_at(bytes, p) { !t } else { t }
+    let t = periods::fsync1_at(bytes, q);
+    if periods::fsync1_at(bytes, p) { !t } else { t }
 }
 
 // Every tally of this crate is made by one of these two.
@@ -85,12 +67,12 @@ fn look_hunting(bytes: &[u8], p: usize, misses: usize) -> Tally
     ensures { λ r. ⌜ ((limit : ℕ) → 0 < limit → Counts limit (now (bytes .entry)) (hunting p misses) r) ⌝ }
 {
     let n = bytes.len();
-    let q = walk::next_mark(bytes, p);
+    let q = periods::next_mark(bytes, p);
     let more = q - p;
     if q > n - 6144 {
         return to_hunt(more, q, misses);
     }
-    if judge_at(bytes, q) != 0 {
+    if periods::judge_at(bytes, q) != 0 {
         return to_hunt(more + 1, q + 1, misses);
     }
     if n - q < 12288 {
@@ -107,7 +89,7 @@ fn look_locked(bytes: &[u8], limit: usize, p: usize, misses: usize) -> Tally
     requires { ⌜ (p + 6144 ≤ length (now bytes)) × (misses < limit) ⌝ }
     ensures { λ r. ⌜ Counts limit (now (bytes .entry)) (locked p misses) r ⌝ }
 {
-    let refusal = judge_at(bytes, p);
+    let refusal = periods::judge_at(bytes, p);
     if refusal == 0 {
         return to_lock(1, p + 6144, 0);
     }

@@ -6,7 +6,6 @@ pub mod Keeping
 pub mod Laws
 pub mod Limits
 pub mod Looks
-pub mod Marks
 pub mod Misses
 pub mod Onward
 pub mod OverBytes

@@ -21,7 +21,7 @@ use Rattle.walk.specs.Records.{part, start, callsAt}
 use Rattle.walk.specs.Demand3.{Keeping, EndsIn, outOf, outSince, framesOut, doneOut}
 use Rattle.walk.proofs.ByRules.{and-left, and-right}
 use Rattle.walk.proofs.OverBytes.{demand-3-first}
-use Rattle.walk.proofs.Marks.{byte-is, synced-marked}
+use Rattle.periods.proofs.Marks.{byte-is, synced-marked}
 
 -- THE RECORD
 -- what follows the sync word: FCT 0, no FIC, no streams, mode I, FL 1; MNSC, the header sum; the sum of an empty main stream, Rfu; Rfa, no timestamp; the padding

@@ -5,11 +5,10 @@ use mathlib.Core.List.{List}
 use mathlib.Core.Logic.{inl, inr}
 use mathlib.Core.Path.{_≡_, refl, sym, ap, ap₂, subst, _∙_}
 use Prim.Native.Nat.{ℕ, zero, suc, _+_, _-_, _≤_, _<_}
-use native.Mathlib.Nat.{add-sub-cancel-left}
 use native.Mathlib.Decide.{decLe}
 use native.Mathlib.Omega.{arith}
 use lib.Dec.{lit<}
-use lib.ListN.{length, take, drop}
+use lib.ListN.{length}
 use borrow.Author.Tests.{eq-eqb, ne-eqb, eqb-true, le-leb}
 use Rattle.frame.specs.declared.Answer.the-variants.{Accepted, Refused}
 use Rattle.frame.specs.declared.Header.{Header}
@@ -24,9 +23,6 @@ use Rattle.walk.specs.Records.{part, judged, fsync1At, frameIn, NoneStan
 use Rattle.walk.specs.StepClauses.{Spent, movedWith, movedAt}
 use Rattle.walk.proofs.ByRules.{confirmed-stands, not-standing, unfollowed, stands-keeps, stands-item}
 use Rattle.walk.proofs.Laws.{step-short, step-spent, step-kept, step-missed, step-last, step-confirmed, step-passed}
-
-pub part-is : (bytes : List ℕ) (p : ℕ) → take (p + 6144 - p) (drop p bytes) ≡ part bytes p
-part-is bytes p = ap (λ (n : ℕ). take n (drop p bytes)) (add-sub-cancel-left p 6144)
 
 pub as-locked : (s : Position) → s .lock ≡ true → locked (s .place) (s .misses) ≡ s
 as-locked s e = λ i. record { place = s .place; misses = s .misses; lock = sym e i }
@@ -125,31 +121,6 @@ module _ (limit : ℕ) (bytes : List ℕ) (p : ℕ) where
     both-stand y s t es et =
         rw (eq-eqb (refusalOf (part bytes p)) 0 (sym e ∙ z), le-leb (p + 6144 + 6144) (length bytes) h, eq-eqb (refusalOf (part bytes (p + 6144))) 0 (sym d ∙ y))
         (ap₂ differ es et)
-
--- ---- places that do not stand
-module _ (bytes : List ℕ) where
-  pub none-passed : {a b : ℕ} → a ≡ b → NoneStands bytes a b
-  none-passed e = record { ahead = omega arith; room = λ p x y. absurd (omega arith); refused = λ p x y. absurd (omega arith) }
-
-  pub one-passed : {b c : ℕ} → b + 1 ≡ c → b + 6144 ≤ length bytes → (refusalOf (part bytes b) ≡ 0 → ⊥) → NoneStands bytes b c
-  one-passed {b} e room bad =
-      record {
-        ahead = omega arith;
-        room = λ p x y. omega arith;
-        refused = λ p x y z. bad (let q : p ≡ b = omega arith in sym (ap (λ (j : ℕ). refusalOf (part bytes j)) q) ∙ z);
-      }
-
-  pub then-passed : {a b c : ℕ} → NoneStands bytes a b → NoneStands bytes b c → NoneStands bytes a c
-  then-passed {a} {b} {c} m n =
-      record {
-        ahead = omega (arith, m .ahead, n .ahead);
-        room = λ p x y. either p (decLe (suc p) b) (m .room p x) (λ z. n .room p z y);
-        refused = λ p x y. either p (decLe (suc p) b) (m .refused p x) (λ z. n .refused p z y);
-      }
-    where
-      either : {Q : Type 0} (p : ℕ) → Dec (suc p ≤ b) → (p < b → Q) → (b ≤ p → Q) → Q
-      either p (yes l) f g = f l
-      either p (no l) f g = g (omega arith)
 
 -- from a and from b the hunt hands back the same
 abbrev pub Same : List ℕ → ℕ → ℕ → Type 0

@@ -7,10 +7,11 @@ use Prim.Native.Nat.{ℕ, zero, suc, _+_, _≤_, _<_}
 use lib.Dec.{eqb, leb}
 use lib.ListN.{length, take, drop}
 use Rattle.frame.specs.declared.Stream.{Stream}
-use Rattle.frame.specs.Frame.{isFsync1, streamsOf}
+use Rattle.frame.specs.Frame.{streamsOf}
 use Rattle.frame.specs.Rules.{_when_, first, refusalOf}
 use Rattle.octets.specs.Choice.{pick}
 use Rattle.frame.specs.Answers.{tableBy, headerFor}
+pub use Rattle.periods.specs.Periods.{part, fsync1At, NoneStands}
 use Rattle.walk.specs.declared.Item.{Item}
 use Rattle.walk.specs.declared.Item.the-variants.{Frame, Lost, Idle, Done}
 use Rattle.walk.specs.declared.Begun.{Begun}
@@ -19,14 +20,6 @@ use Rattle.walk.specs.declared.Position.{Position}
 use Rattle.walk.specs.declared.State.{State}
 use Rattle.walk.specs.declared.Step.{Step}
 use Rattle.walk.specs.Walk.{Judged, begin, stepOf}
-
--- "the reading gets that part of the record itself"
-abbrev pub part : List ℕ → ℕ → List ℕ
-part bytes p = take 6144 (drop p bytes)
-
--- the sync word at a place is FSYNC1
-abbrev pub fsync1At : List ℕ → ℕ → Bool
-fsync1At bytes p = isFsync1 (part bytes p)
 
 -- a place stands if the 6,144 bytes from it are accepted by the reading, and is a null transmission if they are refused with 4; its header and refusal number are the reading's
 unfoldable pub judged : ℕ → List ℕ → Judged
@@ -45,12 +38,6 @@ judged limit bytes =
 -- the frame at a place, with the header that the reading gives there
 abbrev pub frameIn : List ℕ → ℕ → Item
 frameIn bytes p = Frame p (headerFor (part bytes p))
-
--- no place from a up to b stands: each has its period, and that is refused
-pub record NoneStands (bytes : List ℕ) (a b : ℕ) : Type 0 where
-  pub ahead : a ≤ b
-  pub room : (p : ℕ) → a ≤ p → p < b → p + 6144 ≤ length bytes
-  pub refused : (p : ℕ) → a ≤ p → p < b → refusalOf (part bytes p) ≡ 0 → ⊥
 
 -- the table beside an item: that of its frame, and all zero unless it is a frame
 unfoldable pub tableOf : List ℕ → Item → List Stream

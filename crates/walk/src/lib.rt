@@ -1,5 +1,4 @@
 // Walking a record: the state, and a step from one item to the next.
-ghost use mathlib.Core.Bool.{false};
 ghost use mathlib.Core.Path.{_≡_};
 ghost use mathlib.Core.List.{List};
 ghost use Prim.Native.Nat.{ℕ, _+_, _≤_};
@@ -7,7 +6,7 @@ ghost use lib.ListN.{length};
 ghost use Rattle.frame.specs.Rules.{refusalOf};
 ghost use Rattle.frame.specs.Answers.{Reads};
 ghost use Rattle.walk.specs.Walk.{Lost, Idle, Done, confirmed, locked, hunting};
-ghost use Rattle.walk.specs.Records.{part, judged, fsync1At, frameIn, NoneStands, limitRefusalOf, begunWith, stepAt};
+ghost use Rattle.walk.specs.Records.{part, judged, frameIn, limitRefusalOf, begunWith, stepAt};
 ghost use Rattle.walk.specs.StepClauses.{Missed, movedWith, movedAt};
 use frame::Answer;
 use frame::Header;
@@ -55,23 +54,7 @@ struct Moved {
     position: Position,
 }
 
-// The refusal number of the period at p.
-fn judge_at(bytes: &[u8], p: usize) -> u8
-    requires { ⌜ p + 6144 ≤ length (now bytes) ⌝ }
-    ensures { λ r. ⌜ r ≡ refusalOf (part (now (bytes .entry)) p) ⌝ }
-{
-    let e = p + 6144;
-    judging::judge(&bytes[p..e])
-}
-
-fn fsync1_at(bytes: &[u8], p: usize) -> bool
-    requires { ⌜ p + 6144 ≤ length (now bytes) ⌝ }
-    ensures { λ r. ⌜ r ≡ fsync1At (now (bytes .entry)) p ⌝ }
-{
-    let e = p + 6144;
-    judging::is_fsync1(&bytes[p..e])
-}
-
+// What reading gives of the period at p.
 fn read_at(bytes: &[u8], p: usize) -> Reading
     requires { ⌜ p + 6144 ≤ length (now bytes) ⌝ }
     ensures { λ r. ⌜ Reads (part (now (bytes .entry)) p) r ⌝ }
@@ -85,18 +68,18 @@ fn confirms(bytes: &[u8], p: usize) -> bool
     requires { ⌜ p + 6144 ≤ length (now bytes) ⌝ }
     ensures { λ r. ⌜ ((limit : ℕ) → r ≡ confirmed (judged limit (now (bytes .entry))) p) ⌝ }
 {
-    if judge_at(bytes, p) != 0 {
+    if periods::judge_at(bytes, p) != 0 {
         return false;
     }
     let q = p + 6144;
     if bytes.len() - q < 6144 {
         return false;
     }
-    if judge_at(bytes, q) != 0 {
+    if periods::judge_at(bytes, q) != 0 {
         return false;
     }
-    let t = fsync1_at(bytes, q);
-    if fsync1_at(bytes, p) { !t } else { t }
+    let t = periods::fsync1_at(bytes, q);
+    if periods::fsync1_at(bytes, p) { !t } else { t }
 }
 
 // Every position of this crate is made by one of these two.
@@ -176,68 +159,6 @@ fn done_step(position: Position) -> Moved
     }
 }
 
-// Whether p begins like a frame. The sync words, 073AB6 and F8C549, are each other's complement: in both, neighbouring bytes differ by 3D and then by 8C.
-fn mark_at(bytes: &[u8], p: usize) -> bool
-    requires { ⌜ p + 6144 ≤ length (now bytes) ⌝ }
-    ensures { λ r. ⌜ (r ≡ false → refusalOf (part (now (bytes .entry)) p) ≡ 0 → ⊥) ⌝ }
-{
-    let a = bytes[p + 1];
-    let b = bytes[p + 2];
-    let c = bytes[p + 3];
-    ((a ^ b) == 0x3D) & ((b ^ c) == 0x8C)
-}
-
-// Whether one of the 64 places from p on begins like a frame. There is no early exit, so that the loop compiles to vector compares.
-fn marked(bytes: &[u8], p: usize) -> bool
-    requires { ⌜ p + 6208 ≤ length (now bytes) ⌝ }
-    ensures { λ r. ⌜ (r ≡ false → NoneStands (now (bytes .entry)) p (p + 64)) ⌝ }
-{
-    let mut found = false;
-    let mut i = 0;
-    while i < 64 {
-        found = found | mark_at(bytes, p + i);
-        i += 1;
-    }
-    found
-}
-
-// On past the whole blocks of 64 places in which nothing begins like a frame. 6208 is 64 and a period.
-fn past_unmarked(bytes: &[u8], from: usize) -> usize
-    ensures { λ r. ⌜ NoneStands (now (bytes .entry)) from r ⌝ }
-{
-    let n = bytes.len();
-    if n < 6208 {
-        return from;
-    }
-    let mut p = from;
-    while p <= n - 6208 {
-        if marked(bytes, p) {
-            return p;
-        }
-        p += 64;
-    }
-    p
-}
-
-// On to the first place that begins like a frame, or to the end. Places that it passes need not be judged.
-pub fn next_mark(bytes: &[u8], from: usize) -> usize
-    ensures { λ r. ⌜ NoneStands (now (bytes .entry)) from r ⌝ }
-{
-    let n = bytes.len();
-    if n < 6144 {
-        return from;
-    }
-    let last = n - 6144;
-    let mut p = past_unmarked(bytes, from);
-    while p <= last {
-        if mark_at(bytes, p) {
-            return p;
-        }
-        p += 1;
-    }
-    p
-}
-
 // Hunting from a place on: to the first place that is confirmed, or to the end.
 fn hunt(bytes: &[u8], from: usize, misses: usize) -> Moved
     ensures { λ r. ⌜ ((limit : ℕ) → r ≡ movedAt limit (now (bytes .entry)) (hunting from misses)) ⌝ }
@@ -246,12 +167,12 @@ fn hunt(bytes: &[u8], from: usize, misses: usize) -> Moved
     if n < 6144 {
         return done_step(hunt_at(from, misses));
     }
-    let mut p = next_mark(bytes, from);
+    let mut p = periods::next_mark(bytes, from);
     while p <= n - 6144 {
         if confirms(bytes, p) {
             return frame_step(bytes, p);
         }
-        p = next_mark(bytes, p + 1);
+        p = periods::next_mark(bytes, p + 1);
     }
     done_step(hunt_at(p, misses))
 }
@@ -281,7 +202,7 @@ fn in_lock(bytes: &[u8], limit: usize, p: usize, misses: usize) -> Moved
     if p > n - 6144 {
         return done_step(position);
     }
-    let refusal = judge_at(bytes, p);
+    let refusal = periods::judge_at(bytes, p);
     if refusal == 0 {
         return frame_step(bytes, p);
     }

@@ -2,8 +2,7 @@
 ghost use mathlib.Core.Path.{_≡_};
 ghost use Prim.Native.Nat.{_+_, _≤_};
 ghost use lib.ListN.{length};
-ghost use Rattle.frame.specs.Rules.{refusalOf};
-ghost use Rattle.walk.specs.Records.{part, judged};
+ghost use Rattle.walk.specs.Records.{judged};
 ghost use Rattle.why.specs.Why.{Applies, Answers};
 ghost use Rattle.why.specs.WhyClauses.{huntedFor, SaysAt, Says, Asked};
 use walk::Begun;
@@ -34,21 +33,12 @@ enum Found {
     Later,
 }
 
-// The refusal number of the period at p.
-fn judge_at(bytes: &[u8], p: usize) -> u8
-    requires { ⌜ p + 6144 ≤ length (now bytes) ⌝ }
-    ensures { λ r. ⌜ r ≡ refusalOf (part (now (bytes .entry)) p) ⌝ }
-{
-    let e = p + 6144;
-    judging::judge(&bytes[p..e])
-}
-
 // The reason for a place that was hunted over.
 fn hunted(bytes: &[u8], limit: usize, p: usize) -> Reason
     requires { ⌜ p + 6144 ≤ length (now bytes) ⌝ }
     ensures { λ r. ⌜ r ≡ huntedFor (judged limit (now (bytes .entry))) p ⌝ }
 {
-    let n = judge_at(bytes, p);
+    let n = periods::judge_at(bytes, p);
     if n != 0 {
         return Reason::Refused(n);
     }
@@ -56,7 +46,7 @@ fn hunted(bytes: &[u8], limit: usize, p: usize) -> Reason
     if bytes.len() - q < 6144 {
         return Reason::NotStanding;
     }
-    if judge_at(bytes, q) != 0 {
+    if periods::judge_at(bytes, q) != 0 {
         return Reason::NotStanding;
     }
     Reason::SameSync

@@ -5,7 +5,7 @@ use mathlib.Core.Path.{_≡_, refl, sym, ap, _∙_}
 use native.Mathlib.Omega.{arith}
 use Rattle.frame.specs.Rules.{refusalOf}
 use Rattle.walk.specs.Records.{NoneStands}
-use Rattle.walk.proofs.Stepping.{part-is, none-passed, one-passed, then-passed}
+use Rattle.periods.proofs.Passing.{part-is, none-passed, one-passed, then-passed}
 use Rattle.live.proofs.LiveParts.{first-here, first-end}
 use Rattle.live.proofs.first_standing.Statement.{statement}
 use Rattle.live.proofs.first_standing.Tie as tie

@@ -1,4 +1,4 @@
-use Rattle.walk.proofs.Stepping.{part-is}
+use Rattle.periods.proofs.Passing.{part-is}
 use borrow.Author.Needs.{needs}
 use Rattle.walk.proofs.read_at.Statement.{statement}
 use Rattle.walk.proofs.read_at.Tie as tie

@@ -3,7 +3,7 @@
 use mathlib.Core.Path.{refl}
 use native.Mathlib.Omega.{arith}
 use borrow.Author.Needs.{needs}
-use Rattle.walk.proofs.Stepping.{part-is}
+use Rattle.periods.proofs.Passing.{part-is}
 use Rattle.walker.proofs.Periods.{period-within, period-beyond, short}
 use Rattle.walker.proofs.part_at.Statement.{statement}
 use Rattle.walker.proofs.part_at.Tie as tie

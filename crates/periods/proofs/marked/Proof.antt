@@ -4,11 +4,11 @@ use Prim.Native.Nat.{_+_, _-_, _≤_}
 use native.Mathlib.Omega.{arith}
 use native.Mathlib.Nat.{le-antisymm}
 use borrow.Author.Needs.{needs}
-use Rattle.walk.specs.Records.{NoneStands}
-use Rattle.walk.proofs.Stepping.{none-passed, one-passed, then-passed}
+use Rattle.periods.specs.Periods.{NoneStands}
+use Rattle.periods.proofs.Passing.{none-passed, one-passed, then-passed}
 use Rattle.octets.proofs.Deciding.{neither}
-use Rattle.walk.proofs.marked.Statement.{statement}
-use Rattle.walk.proofs.marked.Tie as tie
+use Rattle.periods.proofs.marked.Statement.{statement}
+use Rattle.periods.proofs.marked.Tie as tie
 
 abbrev Inv-loop : tie.InvT-loop
 Inv-loop bytes p found₀ i₀ found i = (i ≤ 64) × (found ≡ false → NoneStands bytes p (p + i))

@@ -12,7 +12,7 @@ use Rattle.frame.specs.Frame.{fsyncOf}
 use Rattle.frame.specs.Rules.{refusalOf}
 use Rattle.frame.proofs.Accepting.{acceptable}
 use Rattle.frame.proofs.Places.{OneFsync}
-use Rattle.walk.specs.Records.{part}
+use Rattle.periods.specs.Periods.{part}
 
 -- the bytes a, b and c are a sync word, and r is true of both
 module _ (a b c : ℕ) (r : Bool) (low : (a < 256) × (b < 256) × (c < 256)) (one : a ≡ 0x07 → b ≡ 0x3A → c ≡ 0xB6 → r ≡ true) (other : a ≡ 0xF8 → b ≡ 0xC5 → c ≡ 0x49 → r ≡ true) where

@@ -3,10 +3,10 @@ use Prim.Native.Nat.{suc, _+_, _-_}
 use lib.ListN.{length}
 use native.Mathlib.Omega.{arith}
 use borrow.Author.Needs.{needs}
-use Rattle.walk.specs.Records.{NoneStands}
-use Rattle.walk.proofs.Stepping.{none-passed, one-passed, then-passed}
-use Rattle.walk.proofs.next_mark.Statement.{statement}
-use Rattle.walk.proofs.next_mark.Tie as tie
+use Rattle.periods.specs.Periods.{NoneStands}
+use Rattle.periods.proofs.Passing.{none-passed, one-passed, then-passed}
+use Rattle.periods.proofs.next_mark.Statement.{statement}
+use Rattle.periods.proofs.next_mark.Tie as tie
 
 abbrev Inv-loop : tie.InvT-loop
 Inv-loop bytes from n last p₀ p = (last + 6144 ≡ length bytes) × NoneStands bytes from p

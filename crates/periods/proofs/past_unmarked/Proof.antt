@@ -2,10 +2,10 @@ use mathlib.Core.Path.{_≡_, refl}
 use Prim.Native.Nat.{suc, _-_}
 use lib.ListN.{length}
 use borrow.Author.Needs.{needs}
-use Rattle.walk.specs.Records.{NoneStands}
-use Rattle.walk.proofs.Stepping.{none-passed, then-passed}
-use Rattle.walk.proofs.past_unmarked.Statement.{statement}
-use Rattle.walk.proofs.past_unmarked.Tie as tie
+use Rattle.periods.specs.Periods.{NoneStands}
+use Rattle.periods.proofs.Passing.{none-passed, then-passed}
+use Rattle.periods.proofs.past_unmarked.Statement.{statement}
+use Rattle.periods.proofs.past_unmarked.Tie as tie
 
 abbrev Inv-loop : tie.InvT-loop
 Inv-loop bytes from n p₀ p = (n ≡ length bytes) × NoneStands bytes from p
