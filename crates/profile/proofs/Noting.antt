@@ -17,7 +17,7 @@ use Rattle.places.specs.Places.{placesTo, some, somePair, sameScid, unsized, be
 use Rattle.places.proofs.Meaning.{clash}
 use Rattle.profile.specs.declared.Notes.{Notes}
 use Rattle.profile.specs.ProfileClauses.{Halved, placeBy, laidTo, endBy, endAt, EndsBy, totalTo, Tallied, past, ahead, Noted, Adds}
-use Rattle.profile.proofs.Pairs.{some-snoc, pair-snoc, none-too}
+use Rattle.profile.proofs.Pairs.{some-snoc, pair-snoc, none-too, none-at-all}
 use Rattle.profile.proofs.Tables.{laid-more, laid-places}
 
 and-false : (a : Bool) → (a && false) ≡ false
@@ -47,6 +47,14 @@ module _ (p : Place) (h : p .end ≤ p .sad) where
   bare-beyond : beyond p ≡ false
   unfolding beyond
   bare-beyond = rw (le-ltb (p .sad) (p .end) h)
+
+  bare-past : (m : ℕ) → past m p ≡ false
+  unfolding past
+  bare-past m = rw (le-ltb (p .sad) (p .end) h)
+
+  bare-meets : (q : Place) → meets q p ≡ false
+  unfolding meets
+  bare-meets q = rw (le-ltb (p .sad) (p .end) h, and-false (ltb (q .sad) (q .end)))
 
 -- ---- one with units
 module _ (p : Place) (h : p .sad < p .end) where
@@ -181,6 +189,38 @@ module _ (ps : List Place) (t : ℕ) (n : ℕ) (s : ltb t n ≡ somePair sameSci
 
         pub told-ordered : r .crossed ≡ false → 0 ≡ first (placeRules ps)
         told-ordered k = told-none false (sym (d .apart k .0)) refl
+
+-- ---- in order but for streams without units: as long as none crosses no two meet, and all end where the last one with units does
+abbrev pub Risen : List Place → Bool → ℕ → Type 0
+Risen ps found m = found ≡ false → (somePair meets ps ≡ false) × (some (past m) ps ≡ false)
+
+risen-more : (ps : List Place) (p : Place) (found : Bool) (m e : ℕ) → e ≡ endAt p → Risen ps found m → Risen (ps ++ (p ∷ [])) (found || (ltb 0 e && ltb (p .sad) m)) (pick (eqb e 0) m e)
+risen-more ps p found m e o d c = go (ltb (p .sad) (p .end)) refl
+  where
+    go : (b : Bool) → ltb (p .sad) (p .end) ≡ b → (somePair meets (ps ++ (p ∷ [])) ≡ false) × (some (past (pick (eqb e 0) m e)) (ps ++ (p ∷ [])) ≡ false)
+    go false x =
+        let h = ltb-false (p .sad) (p .end) x in
+        let z : e ≡ 0 = o ∙ no-end p h in
+        let a = d (neither found (ltb 0 e && ltb (p .sad) m) c .0) in
+        (apart-more ps p (a .0) (none-at-all (λ (q : Place). meets q p) (bare-meets p h) ps), rw (eq-eqb e 0 z) (past-more m ps p (a .1) (bare-past p h m)))
+    go true x =
+        let h = ltb-true (p .sad) (p .end) x in
+        let w : e ≡ p .end = o ∙ at-end p h in
+        let y = neither found (ltb 0 e && ltb (p .sad) m) c in
+        let v : ltb (p .sad) m ≡ false = rw (lt-ltb 0 e (omega arith)) at (y .1) in
+        let r : m ≤ p .sad = ltb-false (p .sad) m v in
+        let a = d (y .0) in
+        let n : eqb e 0 ≡ false = ne-eqb e 0 (λ (z : e ≡ 0). omega arith) in (
+          apart-more ps p (a .0) (none-too (past m) (λ (q : Place). meets q p) (behind-meets p m h r) ps (a .1)),
+          rw (n, w) (past-more (p .end) ps p (none-too (past m) (past (p .end)) (behind-past p m h r) ps (a .1)) (own-past p h)),
+        )
+
+pub risen-on : (highs lows ends : List ℕ) (n i : ℕ) (found : Bool) (m r : ℕ) → i < n → EndsBy unitsIn highs lows ends n → r ≡ pick (eqb (getD ends i 0) 0) m (getD ends i 0) → Risen (laidTo highs lows i) found m
+    → Risen (laidTo highs lows (i + 1)) (found || (ltb 0 (getD ends i 0) && ltb (getD highs i 0 % 1024) m)) r
+unfolding endAt
+risen-on highs lows ends n i found m r h e k d =
+    rw (k, laid-more highs lows i)
+    (risen-more (laidTo highs lows i) (placeBy (getD highs i 0) (getD lows i 0)) found m (getD ends i 0) (e i h ∙ end-same (getD highs i 0 % 1024) (unitsIn (getD lows i 0))) d)
 
 -- ---- in the other order
 module _ (p : Place) (m : ℕ) (h : p .sad < p .end) (l : p .end ≤ m) (q : Place) where

@@ -4,7 +4,9 @@ ghost use mathlib.Core.Bool.{false};
 ghost use mathlib.Core.List.{List};
 ghost use mathlib.Core.Path.{_≡_};
 ghost use Prim.Native.Nat.{ℕ, _≤_, _<_};
+ghost use lib.Dec.{eqb};
 ghost use lib.ListN.{getD};
+ghost use Rattle.octets.specs.Choice.{pick};
 ghost use Rattle.frame.specs.Rules.{first};
 ghost use Rattle.capacity.specs.Sizes.{unitsIn, equalIn};
 ghost use Rattle.places.specs.declared.Place.{Place};
@@ -166,6 +168,32 @@ fn look_over(highs: [u16; 64], lows: [u16; 64], ends: [u16; 64], n: usize) -> No
     notes
 }
 
+// Where the units so far end: this stream's, or where it has none those before it.
+fn reached(reach: u16, end: u16) -> u16
+    ensures { λ r. ⌜ r ≡ pick (eqb end 0) reach end ⌝ }
+{
+    if end == 0 {
+        return reach;
+    }
+    end
+}
+
+// Whether some of the first n streams begins before the last one before it that has units ends.
+fn some_cross(highs: [u16; 64], ends: [u16; 64], n: usize) -> bool
+    requires { ⌜ n ≤ 64 ⌝ }
+    ensures { λ r. ⌜ ((lows : List ℕ) → EndsBy unitsIn highs lows ends n → r ≡ false → somePair meets (laidTo highs lows n) ≡ false) ⌝ }
+{
+    let mut found = false;
+    let mut reach: u16 = 0;
+    let mut i = 0;
+    while i < n {
+        found = found | ((0 < ends[i]) & (highs[i] % 1024 < reach));
+        reach = reached(reach, ends[i]);
+        i += 1;
+    }
+    found
+}
+
 // Whether some of the first n streams takes no units, or does not end where the one before it begins or earlier. If none does, the table is in the other
 // order.
 fn some_rise(highs: [u16; 64], ends: [u16; 64], n: usize) -> bool
@@ -205,6 +233,19 @@ fn some_meet(frame: &[u8], n: usize) -> bool
     found
 }
 
+// The same, by the order where it answers: the other order, or in order but for streams without units; else by the map.
+fn some_overlap(frame: &[u8], highs: [u16; 64], ends: [u16; 64], n: usize) -> bool
+    requires { ⌜ (n ≤ 64) × (some beyond (placesTo (now frame) n) ≡ false) ⌝ }
+    ensures { λ r. ⌜ ((lows : List ℕ) → Halved (now (frame .entry)) highs lows → EndsBy unitsIn highs lows ends n → r ≡ somePair meets (placesTo (now (frame .entry)) n)) ⌝ }
+{
+    if some_rise(highs, ends, n) {
+        if some_cross(highs, ends, n) {
+            return some_meet(frame, n);
+        }
+    }
+    false
+}
+
 // The number of the first n streams.
 fn number(frame: &[u8], n: usize) -> u8
     requires { ⌜ n ≤ 64 ⌝ }
@@ -225,10 +266,8 @@ fn number(frame: &[u8], n: usize) -> u8
         return 32;
     }
     if notes.crossed {
-        if some_rise(highs, ends, n) {
-            if some_meet(frame, n) {
-                return 33;
-            }
+        if some_overlap(frame, highs, ends, n) {
+            return 33;
         }
     }
     0
