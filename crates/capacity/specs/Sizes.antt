@@ -2,7 +2,7 @@
 -- Assumes nothing.
 use mathlib.Core.List.{List, [], _∷_}
 use Prim.Native.Nat.{ℕ, _+_, _-_, _*_, _/_, _%_}
-use lib.Dec.{eqb, leb}
+use lib.Dec.{eqb, ltb, leb}
 use lib.ListN.{getD}
 use Rattle.octets.specs.Choice.{pick, placeIn}
 
@@ -63,3 +63,10 @@ sizeBy tpl stl =
 -- what a stream takes: none with STL 0
 unfoldable pub unitsBy : ℕ → ℕ → ℕ
 unitsBy tpl stl = pick (eqb stl 0) 0 (sizeBy tpl stl)
+
+-- the same from the half of a stream's word that has TPL and STL, 10 bits; and for equal protection alone, first bit 1
+abbrev pub unitsIn : ℕ → ℕ
+unitsIn half = unitsBy (half / 1024) (half % 1024)
+
+unfoldable pub equalIn : ℕ → ℕ
+equalIn half = pick (ltb half 32768) 0 (unitsIn half)

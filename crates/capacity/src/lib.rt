@@ -3,7 +3,7 @@ ghost use mathlib.Core.Path.{_≡_};
 ghost use Prim.Native.Nat.{_<_, _≤_};
 ghost use lib.ListN.{getD};
 ghost use Rattle.octets.specs.Choice.{placeIn};
-ghost use Rattle.capacity.specs.Sizes.{stls, equalA, equalB, perN, unequalSizes, unequalSize, equalSize, sizeBy, unitsBy};
+ghost use Rattle.capacity.specs.Sizes.{stls, equalA, equalB, perN, unequalSizes, unequalSize, equalSize, sizeBy, unitsBy, equalIn};
 
 // By rate, then level 5 to 1; 0 for a dash.
 const SIZES: [u16; 70] = [
@@ -148,28 +148,19 @@ fn unequal(index: u32, stl: u32) -> u32
     listed((5 * row + (4 - index)) as usize)
 }
 
-fn each_a(index: u32) -> u32
-    ensures { λ r. ⌜ (r ≡ getD equalA index 0) × (r ≤ 27) ⌝ }
+// 12, 8, 6, 4 and 27, 21, 18, 15, without a branch.
+fn each_a(index: u16) -> u16
+    requires { ⌜ index < 4 ⌝ }
+    ensures { λ r. ⌜ (r ≡ getD equalA index 0) × (r ≤ 12) ⌝ }
 {
-    match index {
-        0 => 12,
-        1 => 8,
-        2 => 6,
-        3 => 4,
-        _ => 0,
-    }
+    4 + 2 * (4 >> index)
 }
 
-fn each_b(index: u32) -> u32
+fn each_b(index: u16) -> u16
+    requires { ⌜ index < 4 ⌝ }
     ensures { λ r. ⌜ (r ≡ getD equalB index 0) × (r ≤ 27) ⌝ }
 {
-    match index {
-        0 => 27,
-        1 => 21,
-        2 => 18,
-        3 => 15,
-        _ => 0,
-    }
+    15 + 3 * (4 >> index)
 }
 
 // An STL that is no multiple of the unit has no size.
@@ -183,15 +174,15 @@ fn per_n(unit: u32, each: u32, stl: u32) -> u32
     stl / unit * each
 }
 
-fn equal(option: u32, index: u32, stl: u32) -> u32
-    requires { ⌜ stl < 65536 ⌝ }
+fn equal(option: u32, index: u16, stl: u32) -> u32
+    requires { ⌜ (index < 4) × (stl < 65536) ⌝ }
     ensures { λ r. ⌜ (r ≡ equalSize option index stl) × (r ≤ 1769472) ⌝ }
 {
     if option == 0 {
-        return per_n(3, each_a(index), stl);
+        return per_n(3, each_a(index) as u32, stl);
     }
     if option == 1 {
-        return per_n(12, each_b(index), stl);
+        return per_n(12, each_b(index) as u32, stl);
     }
     0
 }
@@ -201,7 +192,7 @@ fn size(tpl: u32, stl: u32) -> u32
     ensures { λ r. ⌜ (r ≡ sizeBy tpl stl) × (r ≤ 1769472) ⌝ }
 {
     if tpl / 32 % 2 != 0 {
-        return equal(tpl / 4 % 8, tpl % 4, stl);
+        return equal(tpl / 4 % 8, (tpl % 4) as u16, stl);
     }
     if tpl / 8 % 2 != 0 {
         return 0;
@@ -217,4 +208,23 @@ pub fn units(tpl: u8, stl: u16) -> u32
         return 0;
     }
     size(tpl as u32, stl as u32)
+}
+
+// The same for equal protection alone, from the half of a stream's word that has TPL and STL; 0 with unequal protection. Nothing in it branches or
+// looks into a table, so that a loop over it is done eight streams at a time.
+pub fn equal_units(half: u16) -> u16
+    ensures { λ r. ⌜ (r ≡ equalIn half) × (r ≤ 4092) ⌝ }
+{
+    let stl = half % 1024;
+    let index = half / 1024 % 4;
+    let n = stl / 3;
+    let a = n * each_a(index);
+    let b = n / 4 * each_b(index);
+    if (half / 4096 == 8) & (stl % 3 == 0) {
+        return a;
+    }
+    if (half / 4096 == 9) & ((stl % 3 == 0) & (n % 4 == 0)) {
+        return b;
+    }
+    0
 }

@@ -1,108 +1,214 @@
-// The final-stage profile of a frame: its number. One run over the streams finds the number of a table whose sub-channels lie in order; only where
-// they do not is a map of the units made.
+// The final-stage profile of a frame: its number. The stream table is taken apart into tables of 64 numbers, and each loop over them does one thing, so that
+// it is done many streams at a time. Sub-channels that lie in order cannot meet; only where they do not is a map of the units made.
 ghost use mathlib.Core.Bool.{false};
+ghost use mathlib.Core.List.{List};
 ghost use mathlib.Core.Path.{_≡_};
-ghost use Prim.Native.Nat.{_≤_};
+ghost use Prim.Native.Nat.{ℕ, _≤_, _<_};
+ghost use lib.Dec.{eqb};
+ghost use lib.ListN.{getD};
+ghost use Rattle.octets.specs.Choice.{pick};
 ghost use Rattle.frame.specs.Rules.{first};
-ghost use Rattle.capacity.specs.Sizes.{unitsBy};
-ghost use Rattle.places.specs.Places.{placeOf, placesTo, some, somePair, beyond, meets, placeRules, profileOf};
-ghost use Rattle.profile.specs.ProfileClauses.{Adds, Noted, IsSize};
-use frame::Stream;
+ghost use Rattle.capacity.specs.Sizes.{unitsIn, equalIn};
+ghost use Rattle.places.specs.declared.Place.{Place};
+ghost use Rattle.places.specs.Places.{placesTo, some, somePair, sameScid, beyond, meets, placeRules, profileOf};
+ghost use Rattle.profile.specs.ProfileClauses.{Halved, endBy, endAt, EndsBy, laidTo, totalTo, Tallied, Adds, Noted};
 
-// What is noted of the streams so far: a SCID met twice, a stream without a size, one beyond the units, one out of order (it does not begin at or
-// behind the end of those before it); and where they end, as long as none is out of order.
+struct Words {
+    highs: [u16; 64],
+    lows: [u16; 64],
+}
+
+// What is noted of the streams so far: one without a size, one beyond the units, one out of order (it takes no units, or does not begin at or behind the
+// end of the one before it); and where the last one ends.
 struct Notes {
-    same: bool,
     sizeless: bool,
     beyond: bool,
     crossed: bool,
-    reach: u32,
+    reach: u16,
 }
 
-// The units of a stream of this TPL and STL.
-struct Size {
-    tpl: u8,
-    stl: u16,
-    units: u32,
-}
-
-// The units of a stream; those of the stream before it are known, and need not be worked out again where TPL and STL are the same.
-fn sized(known: Size, s: Stream) -> Size
-    requires { ⌜ IsSize (known .tpl) (known .stl) known ⌝ }
-    ensures { λ r. ⌜ IsSize (s .tpl) (s .stl) r ⌝ }
+// The halves of 64 streams' words: SCID and SAD, TPL and STL. Both in one loop, so that a word's four bytes are read together.
+fn halves(frame: &[u8]) -> Words
+    ensures { λ r. ⌜ Halved (now (frame .entry)) (r .highs) (r .lows) ⌝ }
 {
-    if (s.tpl == known.tpl) & (s.stl == known.stl) {
-        return known;
+    let mut highs: [u16; 64] = [0; 64];
+    let mut lows: [u16; 64] = [0; 64];
+    let mut i = 0;
+    while i < 64 {
+        highs[i] = octets::two(frame, 8 + 4 * i) as u16;
+        lows[i] = octets::two(frame, 10 + 4 * i) as u16;
+        i += 1;
     }
-    Size {
-        tpl: s.tpl,
-        stl: s.stl,
-        units: capacity::units(s.tpl, s.stl),
-    }
+    Words { highs, lows }
 }
 
-// One stream more, of so many units; `again` says that its SCID was met before.
-fn note(notes: Notes, s: Stream, units: u32, again: bool) -> Notes
-    requires { ⌜ (units ≡ unitsBy (s .tpl) (s .stl)) × (units ≤ 1769472) ⌝ }
-    ensures { λ r. ⌜ Adds notes (placeOf s) again r ⌝ }
+// Where a sub-channel of so many units ends, 0 if it has none.
+fn end_of(sad: u16, units: u16) -> u16
+    requires { ⌜ (sad < 1024) × (units ≤ 4092) ⌝ }
+    ensures { λ r. ⌜ r ≡ endBy sad units ⌝ }
 {
-    let same = notes.same | again;
     if units == 0 {
-        return Notes {
-            same,
-            sizeless: notes.sizeless | (0 < s.stl),
-            beyond: notes.beyond,
-            crossed: notes.crossed,
-            reach: notes.reach,
-        };
+        return 0;
     }
-    let sad = s.sad as u32;
-    let end = sad + units;
-    if (sad < notes.reach) | (864 < end) {
-        return Notes {
-            same,
-            sizeless: notes.sizeless,
-            beyond: notes.beyond | (864 < end),
-            crossed: true,
-            reach: notes.reach,
-        };
+    sad + units
+}
+
+// Whether some of the first n streams carries bytes and has unequal protection.
+fn some_unequal(lows: [u16; 64], n: usize) -> bool
+    requires { ⌜ n ≤ 64 ⌝ }
+    ensures { λ r. ⌜ (r ≡ false → (k : ℕ) → k < n → equalIn (getD lows k 0) ≡ unitsIn (getD lows k 0)) ⌝ }
+{
+    let mut found = false;
+    let mut i = 0;
+    while i < n {
+        found = found | ((lows[i] < 32768) & (0 < lows[i] % 1024));
+        i += 1;
     }
+    found
+}
+
+fn equal_ends(highs: [u16; 64], lows: [u16; 64]) -> [u16; 64]
+    ensures { λ r. ⌜ EndsBy equalIn highs lows r 64 ⌝ }
+{
+    let mut ends: [u16; 64] = [0; 64];
+    let mut i = 0;
+    while i < 64 {
+        ends[i] = end_of(highs[i] % 1024, capacity::equal_units(lows[i]));
+        i += 1;
+    }
+    ends
+}
+
+fn units_of(low: u16) -> u16
+    ensures { λ r. ⌜ (r ≡ unitsIn low) × (r ≤ 4092) ⌝ }
+{
+    if low < 32768 {
+        return capacity::units((low / 1024) as u8, low % 1024) as u16;
+    }
+    capacity::equal_units(low)
+}
+
+fn any_ends(highs: [u16; 64], lows: [u16; 64]) -> [u16; 64]
+    ensures { λ r. ⌜ EndsBy unitsIn highs lows r 64 ⌝ }
+{
+    let mut ends: [u16; 64] = [0; 64];
+    let mut i = 0;
+    while i < 64 {
+        ends[i] = end_of(highs[i] % 1024, units_of(lows[i]));
+        i += 1;
+    }
+    ends
+}
+
+fn ends_of(highs: [u16; 64], lows: [u16; 64], n: usize) -> [u16; 64]
+    requires { ⌜ n ≤ 64 ⌝ }
+    ensures { λ r. ⌜ EndsBy unitsIn highs lows r n ⌝ }
+{
+    if some_unequal(lows, n) {
+        return any_ends(highs, lows);
+    }
+    equal_ends(highs, lows)
+}
+
+// A mark for each SCID of the first n streams.
+fn marked(highs: [u16; 64], n: usize) -> [u8; 64]
+    requires { ⌜ n ≤ 64 ⌝ }
+    ensures { λ r. ⌜ ((lows : List ℕ) → Tallied r n (laidTo highs lows n)) ⌝ }
+{
+    let mut marks: [u8; 64] = [0; 64];
+    let mut i = 0;
+    while i < n {
+        marks[(highs[i] / 1024 % 64) as usize] = 1;
+        i += 1;
+    }
+    marks
+}
+
+fn total(marks: [u8; 64]) -> usize
+    requires { ⌜ ((k : ℕ) → k < 64 → getD marks k 0 ≤ 1) ⌝ }
+    ensures { λ r. ⌜ r ≡ totalTo marks 64 ⌝ }
+{
+    let mut sum: usize = 0;
+    let mut i = 0;
+    while i < 64 {
+        sum += marks[i] as usize;
+        i += 1;
+    }
+    sum
+}
+
+// One stream more.
+fn note(notes: Notes, sad: u16, stl: u16, end: u16) -> Notes
+    ensures { λ r. ⌜ ((p : Place) → sad ≡ p .sad → stl ≡ p .stl → end ≡ endAt p → Adds notes p r) ⌝ }
+{
     Notes {
-        same,
-        sizeless: notes.sizeless,
-        beyond: notes.beyond,
-        crossed: notes.crossed,
+        sizeless: notes.sizeless | ((0 < stl) & (end == 0)),
+        beyond: notes.beyond | (864 < end),
+        crossed: notes.crossed | ((end == 0) | (sad < notes.reach)),
         reach: end,
     }
 }
 
 // The notes of the first n streams.
-fn look_over(frame: &[u8], n: usize) -> Notes
-    ensures { λ r. ⌜ Noted (placesTo (now (frame .entry)) n) r ⌝ }
+fn look_over(highs: [u16; 64], lows: [u16; 64], ends: [u16; 64], n: usize) -> Notes
+    requires { ⌜ (n ≤ 64) × EndsBy unitsIn highs lows ends n ⌝ }
+    ensures { λ r. ⌜ Noted (laidTo highs lows n) r ⌝ }
 {
-    let mut met = [false; 64];
     let mut notes = Notes {
-        same: false,
         sizeless: false,
         beyond: false,
         crossed: false,
         reach: 0,
     };
-    let mut known = Size {
-        tpl: 0,
-        stl: 0,
-        units: 0,
-    };
     let mut i = 0;
     while i < n {
-        let s = fields::entry(frame, i);
-        let k = s.scid as usize;
-        known = sized(known, s);
-        notes = note(notes, s, known.units, met[k]);
-        met[k] = true;
+        notes = note(notes, highs[i] % 1024, lows[i] % 1024, ends[i]);
         i += 1;
     }
     notes
+}
+
+// Where the units so far end: this stream's, or where it has none those before it.
+fn reached(reach: u16, end: u16) -> u16
+    ensures { λ r. ⌜ r ≡ pick (eqb end 0) reach end ⌝ }
+{
+    if end == 0 {
+        return reach;
+    }
+    end
+}
+
+// Whether some of the first n streams begins before the last one before it that has units ends.
+fn some_cross(highs: [u16; 64], ends: [u16; 64], n: usize) -> bool
+    requires { ⌜ n ≤ 64 ⌝ }
+    ensures { λ r. ⌜ ((lows : List ℕ) → EndsBy unitsIn highs lows ends n → r ≡ false → somePair meets (laidTo highs lows n) ≡ false) ⌝ }
+{
+    let mut found = false;
+    let mut reach: u16 = 0;
+    let mut i = 0;
+    while i < n {
+        found = found | ((0 < ends[i]) & (highs[i] % 1024 < reach));
+        reach = reached(reach, ends[i]);
+        i += 1;
+    }
+    found
+}
+
+// Whether some of the first n streams takes no units, or does not end where the one before it begins or earlier. If none does, the table is in the other
+// order.
+fn some_rise(highs: [u16; 64], ends: [u16; 64], n: usize) -> bool
+    requires { ⌜ n ≤ 64 ⌝ }
+    ensures { λ r. ⌜ ((lows : List ℕ) → EndsBy unitsIn highs lows ends n → r ≡ false → somePair meets (laidTo highs lows n) ≡ false) ⌝ }
+{
+    let mut found = false;
+    let mut begun: u16 = 65535;
+    let mut i = 0;
+    while i < n {
+        found = found | ((ends[i] == 0) | (begun < ends[i]));
+        begun = highs[i] % 1024;
+        i += 1;
+    }
+    found
 }
 
 // Whether two streams have a unit together, by a map of the units; none lies beyond it.
@@ -127,14 +233,32 @@ fn some_meet(frame: &[u8], n: usize) -> bool
     found
 }
 
+// The same, by the order where it answers: the other order, or in order but for streams without units; else by the map.
+fn some_overlap(frame: &[u8], highs: [u16; 64], ends: [u16; 64], n: usize) -> bool
+    requires { ⌜ (n ≤ 64) × (some beyond (placesTo (now frame) n) ≡ false) ⌝ }
+    ensures { λ r. ⌜ ((lows : List ℕ) → Halved (now (frame .entry)) highs lows → EndsBy unitsIn highs lows ends n → r ≡ somePair meets (placesTo (now (frame .entry)) n)) ⌝ }
+{
+    if some_rise(highs, ends, n) {
+        if some_cross(highs, ends, n) {
+            return some_meet(frame, n);
+        }
+    }
+    false
+}
+
 // The number of the first n streams.
 fn number(frame: &[u8], n: usize) -> u8
+    requires { ⌜ n ≤ 64 ⌝ }
     ensures { λ r. ⌜ r ≡ first (placeRules (placesTo (now (frame .entry)) n)) ⌝ }
 {
-    let notes = look_over(frame, n);
-    if notes.same {
+    let halves = halves(frame);
+    let highs = halves.highs;
+    let lows = halves.lows;
+    if total(marked(highs, n)) < n {
         return 30;
     }
+    let ends = ends_of(highs, lows, n);
+    let notes = look_over(highs, lows, ends, n);
     if notes.sizeless {
         return 31;
     }
@@ -142,7 +266,7 @@ fn number(frame: &[u8], n: usize) -> u8
         return 32;
     }
     if notes.crossed {
-        if some_meet(frame, n) {
+        if some_overlap(frame, highs, ends, n) {
             return 33;
         }
     }

@@ -16,4 +16,4 @@ returns-3 : tie.Need-returns-3
 returns-3 c = (size-unequal _ _ _ (c .before .before .if1 .left) (c .before .if2 .left) (c .unequal .ensures .0), search needs)
 
 pub size-spec : {M : Type 1} → statement M
-size-spec = tie.close (tie.spec (λ c κs. search needs) returns returns-2 (λ c κs. search needs) returns-3)
+size-spec = tie.close (tie.spec (λ c. search needs) (λ c κs. search needs) returns returns-2 (λ c κs. search needs) returns-3)
