@@ -35,7 +35,7 @@ const fn exponents() -> [u8; 256] {
     exponents
 }
 
-fn product(a: u8, b: u8) -> u8 {
+pub fn product(a: u8, b: u8) -> u8 {
     if a == 0 || b == 0 {
         return 0;
     }
@@ -43,14 +43,19 @@ fn product(a: u8, b: u8) -> u8 {
 }
 
 /// alpha^120 to alpha^(119 + R).
-fn roots(check: usize) -> impl Iterator<Item = u8> {
+pub fn roots(check: usize) -> impl Iterator<Item = u8> {
     (FIRST_ROOT..FIRST_ROOT + check).map(|i| POWERS[i])
 }
 
 /// G(x), the highest power first; its coefficient, 1, included.
 pub fn generator(check: usize) -> Vec<u8> {
+    with_roots(roots(check))
+}
+
+/// The product of x less each root.
+pub fn with_roots(roots: impl Iterator<Item = u8>) -> Vec<u8> {
     let mut g = vec![1];
-    for root in roots(check) {
+    for root in roots {
         // (x - root) g: x g, and root g one place behind.
         g.push(0);
         for place in (1..g.len()).rev() {
