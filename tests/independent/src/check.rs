@@ -54,6 +54,9 @@ pub struct Tally {
     /// Items that lines told, and how often they wanted a piece more.
     pub line_items: u64,
     pub line_pieces: u64,
+    /// Calls from any state, and those refused.
+    pub line_states: u64,
+    pub line_refused: u64,
     pub chains: u64,
     /// Over all chains: the relays, those that met a wrong sum, and the chains in which nothing was damaged.
     pub relays: u64,
@@ -97,6 +100,8 @@ impl Default for Tally {
             looks: 0,
             line_items: 0,
             line_pieces: 0,
+            line_states: 0,
+            line_refused: 0,
             chains: 0,
             relays: 0,
             wrong_sums: 0,
@@ -132,6 +137,8 @@ impl AddAssign<&Tally> for Tally {
         self.looks += other.looks;
         self.line_items += other.line_items;
         self.line_pieces += other.line_pieces;
+        self.line_states += other.line_states;
+        self.line_refused += other.line_refused;
         self.chains += other.chains;
         self.relays += other.relays;
         self.wrong_sums += other.wrong_sums;
@@ -356,6 +363,7 @@ impl Case<'_> {
         self.step(&record.bytes, zeros, state)?;
         for _ in 0..8 {
             self.any_state(&record.bytes)?;
+            self.any_line(&record.bytes)?;
         }
         self.some_places(&record.bytes)
     }
@@ -468,15 +476,8 @@ impl Case<'_> {
     /// A step from a state that need not be reachable.
     fn any_state(&mut self, record: &[u8]) -> Checked<()> {
         let mut walk = self.random.bytes(abi::WALK);
-        let (any, limit) = (usize::from(walk[8]), self.any_limit());
-        let state = State {
-            place: self.any_place(record.len()),
-            misses: self
-                .random
-                .pick(&[0, 1, limit.saturating_sub(1), limit, 8, 9, 255, any]),
-            lock: self.random.one_in(2),
-            limit,
-        };
+        let place = self.any_place(record.len());
+        let state = self.state_at(place);
         walk[..abi::STATE].copy_from_slice(&abi::state_bytes(state));
         match self.random.below(8) {
             0 => {
@@ -490,6 +491,18 @@ impl Case<'_> {
                 self.refused_step(record, walk, 1)
             }
             _ => self.step(record, walk, state).map(|_| ()),
+        }
+    }
+
+    fn state_at(&mut self, place: usize) -> State {
+        let (any, limit) = (usize::from(self.random.byte()), self.any_limit());
+        State {
+            place,
+            misses: self
+                .random
+                .pick(&[0, 1, limit.saturating_sub(1), limit, 8, 9, 255, any]),
+            lock: self.random.one_in(2),
+            limit,
         }
     }
 

@@ -1,77 +1,100 @@
-//! Clause 8.6: check bytes and clean rows.
+//! The Reed-Solomon code of clause 8.6: symbols of the field of 256 elements, five or fourteen check bytes behind a row's information.
 
-use crate::line::{COLUMNS, VARIANTS};
-
-/// x^8 + x^7 + x^2 + x + 1.
-const P: u16 = 0b1_1000_0111;
+/// Bytes of a codeword.
+pub const CODEWORD: usize = 240;
+/// P(x) = x^8 + x^7 + x^2 + x + 1, a bit for each power.
+const P: u16 = 1 << 8 | 1 << 7 | 1 << 2 | 1 << 1 | 1;
+/// The power of alpha that is the generator's first root.
 const FIRST_ROOT: usize = 120;
+/// Elements other than 0, all of them powers of alpha.
+const ORDER: usize = 255;
 
-/// The product of two polynomials, then what is left of it modulo P.
-fn product(a: u8, b: u8) -> u8 {
-    let mut long: u16 = 0;
-    for bit in 0..8 {
-        if b >> bit & 1 == 1 {
-            long ^= u16::from(a) << bit;
-        }
+/// alpha^i, for sums of two exponents too.
+const POWERS: [u8; 2 * ORDER] = powers();
+/// The exponent of each element but 0.
+const EXPONENTS: [u8; 256] = exponents();
+
+const fn powers() -> [u8; 2 * ORDER] {
+    let mut powers = [1; 2 * ORDER];
+    let mut i = 1;
+    while i < 2 * ORDER {
+        let shifted = (powers[i - 1] as u16) << 1;
+        powers[i] = if shifted > 0xFF { shifted ^ P } else { shifted } as u8;
+        i += 1;
     }
-    for bit in (8..16).rev() {
-        if long >> bit & 1 == 1 {
-            long ^= P << (bit - 8);
-        }
-    }
-    long as u8
+    powers
 }
 
-/// x to the n.
-fn alpha(n: usize) -> u8 {
-    (0..n % 255).fold(1, |power, _| product(power, 2))
+const fn exponents() -> [u8; 256] {
+    let mut exponents = [0; 256];
+    let mut i = 0;
+    while i < ORDER {
+        exponents[POWERS[i] as usize] = i as u8;
+        i += 1;
+    }
+    exponents
 }
 
-/// G(x), the coefficient of the highest power first.
+pub fn product(a: u8, b: u8) -> u8 {
+    if a == 0 || b == 0 {
+        return 0;
+    }
+    POWERS[usize::from(EXPONENTS[usize::from(a)]) + usize::from(EXPONENTS[usize::from(b)])]
+}
+
+/// alpha^120 to alpha^(119 + R).
+pub fn roots(check: usize) -> impl Iterator<Item = u8> {
+    (FIRST_ROOT..FIRST_ROOT + check).map(|i| POWERS[i])
+}
+
+/// G(x), the highest power first; its coefficient, 1, included.
 pub fn generator(check: usize) -> Vec<u8> {
+    with_roots(roots(check))
+}
+
+/// The product of x less each root.
+pub fn with_roots(roots: impl Iterator<Item = u8>) -> Vec<u8> {
     let mut g = vec![1];
-    for i in FIRST_ROOT..FIRST_ROOT + check {
-        let root = alpha(i);
-        let mut next = g.clone();
-        next.push(0);
-        for (n, &c) in g.iter().enumerate() {
-            next[n + 1] ^= product(c, root);
+    for root in roots {
+        // (x - root) g: x g, and root g one place behind.
+        g.push(0);
+        for place in (1..g.len()).rev() {
+            g[place] ^= product(root, g[place - 1]);
         }
-        g = next;
     }
     g
 }
 
-/// The information times x^check, divided by G(x): what is left.
-pub fn check_bytes(information: &[u8], check: usize) -> Result<Vec<u8>, u8> {
-    let known = VARIANTS
-        .iter()
-        .any(|v| v.check == check && v.width == information.len());
-    if !known {
-        return Err(1);
+/// A row's information bytes and its check bytes: 235 and 5, or 226 and 14.
+fn fits(information: usize, check: usize) -> Result<(), u8> {
+    if [(235, 5), (226, 14)].contains(&(information, check)) {
+        Ok(())
+    } else {
+        Err(1)
     }
-    let g = generator(check);
-    let mut left = information.to_vec();
-    left.resize(information.len() + check, 0);
-    for n in 0..information.len() {
-        let factor = left[n];
-        for (k, &c) in g.iter().enumerate() {
-            left[n + k] ^= product(factor, c);
-        }
-    }
-    Ok(left[information.len()..].to_vec())
 }
 
-/// The row's value at each root, summed term by term, is zero.
-pub fn is_clean(row: &[u8], check: usize) -> Result<bool, u8> {
-    let known = row.len() == COLUMNS && VARIANTS.iter().any(|v| v.check == check);
-    if !known {
-        return Err(1);
+/// What is left of the information, as the high powers of a codeword, divided by G(x).
+pub fn check_bytes(information: &[u8], check: usize) -> Result<Vec<u8>, u8> {
+    fits(information.len(), check)?;
+    let g = generator(check);
+    let mut rest = information.to_vec();
+    rest.resize(CODEWORD, 0);
+    for place in 0..information.len() {
+        let quotient = rest[place];
+        for (left, &coefficient) in rest[place..].iter_mut().zip(&g) {
+            *left ^= product(quotient, coefficient);
+        }
     }
-    let powers: Vec<u8> = (0..255).map(alpha).collect();
-    let clean = (FIRST_ROOT..FIRST_ROOT + check).all(|root| {
-        let term = |(j, &c): (usize, &u8)| product(c, powers[root * (COLUMNS - 1 - j) % 255]);
-        row.iter().enumerate().map(term).fold(0, |a, b| a ^ b) == 0
-    });
-    Ok(clean)
+    Ok(rest.split_off(information.len()))
+}
+
+/// A row is clean if every root of G(x) is one of it.
+pub fn is_clean(row: &[u8], check: usize) -> Result<bool, u8> {
+    fits(row.len().saturating_sub(check), check)?;
+    let value = |root| {
+        row.iter()
+            .fold(0, |value, &byte| product(value, root) ^ byte)
+    };
+    Ok(roots(check).all(|root| value(root) == 0))
 }

@@ -1,6 +1,8 @@
 //! The clauses' own figures for the leased lines and their check bytes.
 
-use independent::line::{back, place, Parts, BLOCKS, OUTPUT, ROWS, SLOTS, VARIANTS};
+use independent::generate::frames::Draft;
+use independent::generate::{Random, Sort};
+use independent::line::{back, out, place, Parts, BLOCKS, OUTPUT, ROWS, SLOTS, VARIANTS};
 use independent::reed_solomon::{check_bytes, generator, is_clean};
 
 /// Parts of the right lengths, all zero.
@@ -61,6 +63,24 @@ fn the_first_frame() {
     assert_eq!(parts.information[0], 9);
     assert_eq!(parts.information[227], 10);
     assert_eq!(parts.signalling[0], 16);
+}
+
+/// T-03's fill: the (FL + 3) x 4 bytes of the logical frame, and FF from there on.
+#[test]
+fn the_fill_begins_behind_the_logical_frame() {
+    let mut random = Random::new(1, Sort::Frame, 0);
+    for v in VARIANTS {
+        let lent = zeros(v.information, v.check);
+        let mut draft = Draft::valid(&mut random);
+        draft.table.clear();
+        draft.set_fl();
+        let frame = draft.frame(&mut random);
+        let sent = out(&frame, v.information, &lent, OUTPUT).expect("carried");
+        let came = back(&sent, v.information, &lent).expect("right lengths");
+        let (logical, fill) = came.information.split_at((draft.fl + 3) * 4);
+        assert_eq!(logical, &frame[4..4 + logical.len()]);
+        assert!(fill.iter().all(|&byte| byte == 0xFF));
+    }
 }
 
 /// Five roots, five coefficients below the first; a row with its check bytes is clean, and with one byte changed it is not.

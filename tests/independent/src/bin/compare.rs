@@ -166,8 +166,13 @@ fn report(tally: &Tally) -> ExitCode {
     println!("locks lost with limits 1 to 8 {inside:?}, limits refused {outside}");
     println!("tests put by all walks {}", tally.looks);
     never |= tally.looks == 0;
-    println!("lines by pieces: items {}, pieces {}", tally.line_items, tally.line_pieces);
-    never |= tally.line_items == 0 || tally.line_pieces == 0;
+    let lines = [
+        ("lines by pieces: items", tally.line_items),
+        ("lines by pieces: more wanted", tally.line_pieces),
+        ("lines from any state", tally.line_states),
+        ("lines refused", tally.line_refused),
+    ];
+    never |= counted(&lines);
     for (number, count) in tally.numbers.iter().enumerate() {
         println!("number {number}: {count} cases");
     }
@@ -195,10 +200,7 @@ fn report(tally: &Tally) -> ExitCode {
         ("wrong sums met in chains", tally.wrong_sums),
         ("chains without damage", tally.undamaged),
     ];
-    for (what, count) in chains {
-        println!("{what} {count}");
-        never |= count == 0;
-    }
+    never |= counted(&chains);
     let [handed_out, lost, refused, not_standing, same_sync, stepped_over] = tally.reasons;
     println!("reasons: every place of {} records; handed out {handed_out}, lost {lost}, refused {refused}, not standing {not_standing}, same sync word {same_sync}, stepped over {stepped_over}", tally.every_place);
     let [limits, places] = tally.why_refused;
@@ -215,6 +217,14 @@ fn report(tally: &Tally) -> ExitCode {
     }
     println!("no mismatch");
     ExitCode::SUCCESS
+}
+
+/// Prints each count; whether one is 0.
+fn counted(counts: &[(&str, u64)]) -> bool {
+    for (what, count) in counts {
+        println!("{what} {count}");
+    }
+    counts.iter().any(|&(_, count)| count == 0)
 }
 
 /// Prints how often each number was met; whether one never was.

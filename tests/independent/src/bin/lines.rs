@@ -1,10 +1,10 @@
 //! Compares the proved leased lines and check bytes with the independent implementation: lines [CASES [SEED]].
 
-use independent::generate::frames::frame_case;
+use independent::generate::frames::{frame_case, Draft};
 use independent::generate::{Random, Sort};
 use independent::line::{back, frame, out, rows, Parts, BLOCKS, OUTPUT, ROWS, SLOTS, VARIANTS};
 use independent::line_abi as abi;
-use independent::reed_solomon::{check_bytes, is_clean};
+use independent::reed_solomon::{check_bytes, is_clean, product, roots, with_roots};
 use std::process::ExitCode;
 
 const GUARD: usize = 16;
@@ -116,9 +116,20 @@ fn parts(random: &mut Random, information: usize, check: usize) -> Parts {
     }
 }
 
+/// A frame of any sort, now and then one that a variant just carries or just does not.
+fn any_frame(random: &mut Random) -> Vec<u8> {
+    if !random.one_in(8) {
+        return frame_case(random).1;
+    }
+    let most = random.pick(&VARIANTS).information / 4 - 3;
+    let mut draft = Draft::valid(random);
+    draft.reach(random.within(most - 1, most + 1), random);
+    draft.frame(random)
+}
+
 /// A frame out; what came of it, or other bytes, back.
 fn line(random: &mut Random, met: &mut Met) -> Result<(), String> {
-    let (_, frame) = frame_case(random);
+    let frame = any_frame(random);
     let (number, check) = variant(random);
     let lent = parts(random, 0, check);
     let n = length(random, OUTPUT);
@@ -155,7 +166,7 @@ fn told(random: &mut Random, output: &[u8], number: usize, met: &mut Met) -> Res
 fn again(random: &mut Random, came: &[u8], number: usize, met: &mut Met) -> Result<(), String> {
     let mut information = came.to_vec();
     if random.one_in(2) {
-        let (_, other) = frame_case(random);
+        let other = any_frame(random);
         let logical = other.get(4..).unwrap_or(&[]);
         let n = information.len().min(logical.len());
         information[..n].copy_from_slice(&logical[..n]);
@@ -203,12 +214,34 @@ fn six(p: &Parts) -> [&[u8]; 6] {
     ]
 }
 
+/// The number of check bytes, or now and then another, that of the other variant too.
+fn check_length(random: &mut Random, right: usize) -> usize {
+    let any = length(random, right);
+    if random.one_in(40) {
+        random.pick(&VARIANTS).check
+    } else {
+        any
+    }
+}
+
+/// Adds what has every root but one.
+fn spoil_one_root(random: &mut Random, row: &mut [u8], check: usize) {
+    let left_out = random.below(check);
+    let others = roots(check).enumerate().filter(|&(n, _)| n != left_out);
+    let added = with_roots(others.map(|(_, root)| root));
+    let factor = random.within(1, 255) as u8;
+    let at = random.below(row.len() - added.len() + 1);
+    for (byte, coefficient) in row[at..].iter_mut().zip(added) {
+        *byte ^= product(factor, coefficient);
+    }
+}
+
 /// Information, its check bytes, and the row of both, as it is and with some bytes changed.
 fn row(random: &mut Random, met: &mut Met) -> Result<(), String> {
     let v = random.pick(&VARIANTS);
     let n = length(random, v.width);
     let information = random.bytes(n);
-    let n = length(random, v.check);
+    let n = check_length(random, v.check);
     let before = random.bytes(n);
     let expected = check_bytes(&information, n);
     met.check[usize::from(expected.is_err())] += 1;
@@ -226,7 +259,10 @@ fn row(random: &mut Random, met: &mut Met) -> Result<(), String> {
             row[at] = random.byte();
         }
     }
-    let check = length(random, v.check);
+    if random.one_in(8) && row.len() == v.width + v.check {
+        spoil_one_root(random, &mut row, v.check);
+    }
+    let check = check_length(random, v.check);
     let told = is_clean(&row, check);
     met.rows[told.map_or(1, |clean| 2 * usize::from(clean))] += 1;
     let n = length(random, 1);

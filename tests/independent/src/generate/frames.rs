@@ -136,7 +136,7 @@ impl Draft {
     }
 
     /// Streams by which the formula gives FL as asked, or one more.
-    fn reach(&mut self, fl: usize, random: &mut Random) {
+    pub fn reach(&mut self, fl: usize, random: &mut Random) {
         let (count, total) = reaching(fl, ficl(self.ficf, self.mid), random);
         let lengths = lengths(random, count, total);
         self.set_lengths(&lengths, random);
