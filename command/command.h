@@ -81,8 +81,9 @@ void heed(uint64_t done);
 void progress_begin(uint64_t bytes);
 int progress_due(void);
 void progress_show(uint64_t done);
-/* The line is taken away. */
+/* The line is taken away; .. from within a signal's handler. */
 void progress_end(void);
+void progress_wipe(void);
 
 /* ---- words, numbers and ends */
 

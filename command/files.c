@@ -4,6 +4,8 @@
 
 #include <errno.h>
 #include <fcntl.h>
+#include <signal.h>
+#include <stdio.h>
 #include <stdlib.h>
 #include <string.h>
 #include <sys/mman.h>
@@ -39,6 +41,18 @@ static struct record taken(void) {
     return all;
 }
 
+/* A mapped file whose bytes are gone, or cannot be read, shows itself by a signal. */
+static char loss[4352];
+
+static void gone(int signal_number) {
+    ssize_t told;
+    (void)signal_number;
+    progress_wipe();
+    told = write(STDERR_FILENO, loss, strlen(loss));
+    (void)told;
+    _exit(COULD_NOT);
+}
+
 struct record map(const char *name) {
     static const uint8_t none;
     struct record record = {&none, 0};
@@ -57,6 +71,8 @@ struct record map(const char *name) {
         if (bytes == MAP_FAILED) fail(name, strerror(errno));
         record.bytes = bytes;
         record.len = (size_t)about.st_size;
+        snprintf(loss, sizeof loss, "spindlewren: %s: cut short meanwhile, or it cannot be read\n", name);
+        signal(SIGBUS, gone);
     }
     close(file);
     return record;

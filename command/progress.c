@@ -19,9 +19,13 @@ static void ring(int signal_number) {
     due = 1;
 }
 
+void progress_wipe(void) {
+    if (shown && write(STDERR_FILENO, ERASE, sizeof ERASE - 1) < 0) shown = 0;
+}
+
 /* The user's own end of the command leaves no line behind either. */
 static void leave(int signal_number) {
-    if (shown && write(STDERR_FILENO, ERASE, sizeof ERASE - 1) < 0) shown = 0;
+    progress_wipe();
     signal(signal_number, SIG_DFL);
     raise(signal_number);
 }
