@@ -487,7 +487,7 @@ impl Case<'_> {
             1 => {
                 // The length is looked at before the lock byte.
                 walk[9] = self.random.pick(&[0, 1, 2, 255]);
-                walk.resize(self.random.pick(&[0, 10, 11, 20, 22, 42]), 2);
+                walk.resize(self.random.pick(&[0, 10, 11, 21, 22, 24, 46]), 2);
                 self.refused_step(record, walk, 1)
             }
             _ => self.step(record, walk, state).map(|_| ()),
