@@ -2,9 +2,11 @@
 
 use independent::generate::frames::{frame_case, Draft};
 use independent::generate::{Random, Sort};
-use independent::line::{back, frame, out, rows, Parts, BLOCKS, OUTPUT, ROWS, SLOTS, VARIANTS};
+use independent::line::{
+    back, frame, out, place, rows, Parts, BLOCKS, OUTPUT, ROWS, SLOTS, VARIANTS,
+};
 use independent::line_abi as abi;
-use independent::reed_solomon::{check_bytes, is_clean, product, roots, with_roots};
+use independent::reed_solomon::{check_bytes, is_clean, product, roots, with_roots, CODEWORD};
 use std::process::ExitCode;
 
 const GUARD: usize = 16;
@@ -153,6 +155,9 @@ fn told(random: &mut Random, output: &[u8], number: usize, met: &mut Met) -> Res
             output[at] = random.byte();
         }
     }
+    if random.one_in(4) && output.len() == OUTPUT {
+        spoil_row(random, &mut output);
+    }
     let n = length(random, ROWS);
     let before = random.bytes(n);
     let expected = rows(&output, number, n);
@@ -221,6 +226,17 @@ fn check_length(random: &mut Random, right: usize) -> usize {
         random.pick(&VARIANTS).check
     } else {
         any
+    }
+}
+
+/// A row of an output array, whichever variant's.
+fn spoil_row(random: &mut Random, output: &mut [u8]) {
+    let i = random.below(ROWS);
+    let mut row: Vec<u8> = (0..CODEWORD).map(|j| output[place(i, j)]).collect();
+    let check = random.pick(&VARIANTS).check;
+    spoil_one_root(random, &mut row, check);
+    for (j, byte) in row.into_iter().enumerate() {
+        output[place(i, j)] = byte;
     }
 }
 
