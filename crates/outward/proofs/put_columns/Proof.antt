@@ -8,12 +8,12 @@ use Rattle.outward.proofs.put_columns.Tie as tie
 put-upper-row-requires : tie.Need-put-upper-row-requires
 put-upper-row-requires c κs =
     let start = c .before .before .before .before .before .before in
-    upper-of (start .pre) _ (search needs) (start .pre .management)
+    upper-of (start .pre) _ (search needs) (search needs)
 
 put-upper-row-requires-2 : tie.Need-put-upper-row-requires-2
 put-upper-row-requires-2 c κs =
     let start = c .before .before .before .before .before .before .before in
-    upper-of (start .pre) _ (search needs) (start .pre .supervision)
+    upper-of (start .pre) _ (search needs) (search needs)
 
 put-lower-row-requires : tie.Need-put-lower-row-requires
 put-lower-row-requires c κs =
