@@ -15,7 +15,6 @@ use lib.Seq.{getD-set-same, getD-set-other}
 use Rattle.octets.specs.Choice.{pick}
 use Rattle.octets.specs.Words.{twoAt, wordAt}
 use Rattle.octets.proofs.Deciding.{or-false, neither}
-use Rattle.frame.specs.declared.Stream.{Stream}
 use Rattle.frame.specs.Frame.{streamBy, streamOf}
 use Rattle.capacity.specs.Sizes.{unitsBy, unitsIn, equalIn}
 use Rattle.places.specs.declared.Place.{Place}

@@ -10,7 +10,7 @@ ghost use Rattle.octets.specs.Choice.{pick};
 ghost use Rattle.frame.specs.Rules.{first};
 ghost use Rattle.capacity.specs.Sizes.{unitsIn, equalIn};
 ghost use Rattle.places.specs.declared.Place.{Place};
-ghost use Rattle.places.specs.Places.{placesTo, some, somePair, sameScid, beyond, meets, placeRules, profileOf};
+ghost use Rattle.places.specs.Places.{placesTo, some, somePair, beyond, meets, placeRules, profileOf};
 ghost use Rattle.profile.specs.ProfileClauses.{Halved, endBy, endAt, EndsBy, laidTo, totalTo, Tallied, Adds, Noted};
 
 struct Words {

@@ -4,7 +4,6 @@ use Prim.Native.Nat.{_-_, _/_, _%_, _≤_, ℕ}
 use mathlib.Core.List.{List}
 use lib.ListN.{length, getD, length-set}
 use native.Mathlib.Nat.{le-antisymm}
-use native.Mathlib.Omega.{arith}
 use mathlib.Core.Path.{_≡_, refl, _∙_}
 use Rattle.profile.specs.ProfileClauses.{laidTo, Tallied}
 use Rattle.profile.proofs.Tables.{tallied-none, tallied-on}

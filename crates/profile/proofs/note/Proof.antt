@@ -1,7 +1,6 @@
 -- `profile::note` meets its contract.
 -- Assumes nothing.
 use Rattle.profile.proofs.Noting.{noted}
-use borrow.Author.Needs.{needs}
 use Rattle.profile.proofs.note.Statement.{statement}
 use Rattle.profile.proofs.note.Tie as tie
 
