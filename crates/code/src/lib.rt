@@ -50,11 +50,11 @@ struct Registers {
     low: usize,
 }
 
-// c, where the last bit of d is set, else 0.
+// c, where the last bit of d is set, else 0: a product, since of eight choices the compiler makes vectors, which take twice as long.
 fn part(c: usize, d: u8) -> usize
     ensures { λ r. ⌜ r ≡ scale (bit d 0) c ⌝ }
 {
-    if d % 2 == 1 { c } else { 0 }
+    c * ((d % 2) as usize)
 }
 
 // f times each coefficient of the generator below the first: the exclusive or of its multiples by the bits of f.
