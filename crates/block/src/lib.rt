@@ -46,15 +46,7 @@ fn put_frame(out: &mut [u8], fct: u8, level: u8)
 }
 
 // The state in eleven bytes, and what it told last in twelve: its kind, number and place, and a frame's FCT and level. They are stored only where there is room for all of them.
-pub fn put_told(
-    out: &mut [u8],
-    walk: State,
-    kind: u8,
-    number: u8,
-    item: usize,
-    fct: u8,
-    level: u8,
-)
+pub fn put_told(out: &mut [u8], walk: State, kind: u8, number: u8, item: usize, fct: u8, level: u8)
     ensures { λ _. ⌜ now (out .exit) ≡ put (now (out .entry)) 0 (toldBytes walk kind number item fct level) ⌝ }
 {
     if out.len() < 23 {
