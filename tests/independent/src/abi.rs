@@ -409,7 +409,7 @@ pub fn state_of(walk: &[u8]) -> State {
 
 /// The kind and the place of the item behind a state.
 pub fn item_of(walk: &[u8]) -> (u8, usize) {
-    (walk[KIND], place_of(&walk[KIND + 2..]))
+    (walk[KIND], place_of(&walk[KIND + 2..STATE + ITEM]))
 }
 
 pub fn place_of(bytes: &[u8]) -> usize {
