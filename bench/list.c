@@ -1,5 +1,5 @@
-/* list COMMAND FILE: the command's list over a record of full frames, made in FILE, beside the walk over the same bytes in memory, alone and with each frame read
-   once more: processor time for a frame, user and system, the least of many rounds in turn. */
+/* list COMMAND FILE: the command's list over a record of full frames, made in FILE, beside the walk over the same bytes in memory and beside a process that maps the
+   file and walks it: processor time for a frame, user and system, the least of many rounds in turn. list FILE: that process. */
 #define _DEFAULT_SOURCE
 #include "spindlewren.h"
 
@@ -8,6 +8,7 @@
 #include <stdio.h>
 #include <stdlib.h>
 #include <string.h>
+#include <sys/mman.h>
 #include <sys/resource.h>
 #include <sys/wait.h>
 #include <time.h>
@@ -50,31 +51,39 @@ static double spent(void) {
     return (double)t.tv_sec + (double)t.tv_nsec / 1e9;
 }
 
-static double walked(int reading) {
-    uint8_t walk[SPINDLEWREN_WALK], answer[SPINDLEWREN_ANSWER];
-    double began = spent();
+static size_t frames_of(const uint8_t *bytes, size_t n) {
+    uint8_t walk[SPINDLEWREN_WALK];
     size_t frames = 0;
     spindlewren_begin(3, walk, sizeof walk);
     do {
-        spindlewren_step(record, len, walk, sizeof walk);
+        spindlewren_step(bytes, n, walk, sizeof walk);
         frames += walk[SPINDLEWREN_KIND] == SPINDLEWREN_IS_FRAME;
-        if (reading && walk[SPINDLEWREN_KIND] == SPINDLEWREN_IS_FRAME)
-            spindlewren_read(record + spindlewren_number(walk, SPINDLEWREN_ITEM, 8), SPINDLEWREN_FRAME, answer, sizeof answer);
     } while (walk[SPINDLEWREN_KIND] != SPINDLEWREN_IS_DONE);
-    if (frames != FRAMES) exit(1);
+    return frames;
+}
+
+static double walked(void) {
+    double began = spent();
+    if (frames_of(record, len) != FRAMES) exit(1);
     return spent() - began;
 }
 
-static double listed(const char *command, const char *file) {
+static int mapped(const char *name) {
+    int file = open(name, O_RDONLY);
+    void *bytes = file < 0 ? MAP_FAILED : mmap(NULL, len, PROT_READ, MAP_PRIVATE, file, 0);
+    return bytes == MAP_FAILED || frames_of(bytes, len) != FRAMES;
+}
+
+static double process(char **words) {
     struct rusage used;
-    /* not by fork, which would copy the tables of this program's own memory in the command's time */
-    char *words[] = {(char *)command, "list", (char *)file, NULL}, *none[] = {NULL};
+    char *none[] = {NULL};
     posix_spawn_file_actions_t actions;
     int status;
     pid_t child;
     posix_spawn_file_actions_init(&actions);
     posix_spawn_file_actions_addopen(&actions, 1, "/dev/null", O_WRONLY, 0);
-    if (posix_spawn(&child, command, &actions, NULL, words, none) != 0 || wait4(child, &status, 0, &used) != child || status != 0) exit(1);
+    /* not by fork, which would copy the tables of this program's own memory in the other's time */
+    if (posix_spawn(&child, words[0], &actions, NULL, words, none) != 0 || wait4(child, &status, 0, &used) != child || status != 0) exit(1);
     posix_spawn_file_actions_destroy(&actions);
     return seconds(used.ru_utime) + seconds(used.ru_stime);
 }
@@ -84,20 +93,22 @@ int main(int argc, char **argv) {
     FILE *file = argc == 3 ? fopen(argv[2], "wb") : NULL;
     unsigned n;
     int i;
+    if (argc == 2) return mapped(argv[1]);
     record = malloc(len);
     if (file == NULL || record == NULL) return 1;
     for (n = 0; n < 500; n++) full_frame(record + (size_t)n * SPINDLEWREN_FRAME, n);
     for (; n < FRAMES; n++) memcpy(record + (size_t)n * SPINDLEWREN_FRAME, record + (size_t)(n % 500) * SPINDLEWREN_FRAME, SPINDLEWREN_FRAME);
     if (fwrite(record, 1, len, file) != len || fclose(file) != 0) return 1;
     for (n = 0; n < ROUNDS; n++) {
+        char *alone[] = {argv[0], argv[2], NULL}, *list[] = {argv[1], "list", argv[2], NULL};
         double now[3];
-        now[0] = walked(0);
-        now[1] = walked(1);
-        now[2] = listed(argv[1], argv[2]);
+        now[0] = walked();
+        now[1] = process(alone);
+        now[2] = process(list);
         for (i = 0; i < 3; i++)
             if (now[i] < least[i]) least[i] = now[i];
     }
-    printf("ns of processor for a full frame: walk %.0f, walk and reading again %.0f, list %.0f; list / walk %.2f\n", 1e9 * least[0] / FRAMES, 1e9 * least[1] / FRAMES,
-           1e9 * least[2] / FRAMES, least[2] / least[0]);
+    printf("ns of processor for a full frame: the walk in memory %.0f, a process that maps the file and walks it %.0f, list %.0f; list / these %.2f and %.2f\n", 1e9 * least[0] / FRAMES,
+           1e9 * least[1] / FRAMES, 1e9 * least[2] / FRAMES, least[2] / least[0], least[2] / least[1]);
     return 0;
 }

@@ -55,6 +55,8 @@ int main(int argc, char **argv) {
     /* a closed pipe is met where it is written to, so that a progress line can be taken away first */
     signal(SIGPIPE, SIG_IGN);
     if (!isatty(STDOUT_FILENO)) setvbuf(stdout, buffer, _IOFBF, sizeof buffer);
+    /* no one else writes: locked once, and not at each line */
+    flockfile(stdout);
     if (given(argc, argv, "--help")) {
         help(verb);
     } else if (given(argc, argv, "--version")) {

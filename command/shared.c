@@ -63,8 +63,14 @@ int digits(const char *word, size_t *number) {
 }
 
 char *number_before(char *end, uint64_t n) {
-    do *--end = (char)('0' + n % 10);
-    while ((n /= 10) != 0);
+    /* two digits to a division, which is what takes time */
+    for (; n >= 100; n /= 100) {
+        unsigned two = (unsigned)(n % 100);
+        *--end = (char)('0' + two % 10);
+        *--end = (char)('0' + two / 10);
+    }
+    *--end = (char)('0' + n % 10);
+    if (n >= 10) *--end = (char)('0' + n / 10);
     return end;
 }
 

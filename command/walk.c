@@ -6,7 +6,7 @@
 #include <sys/mman.h>
 
 /* So many bytes behind the walk are given back at a time: whole pages, whatever their size. */
-enum { BEHIND = 1 << 20 };
+enum { BEHIND = 1 << 21 };
 
 static void each_of_record(struct record record, uint8_t *walk, teller tell, void *to) {
     size_t place, behind = 0;
