@@ -28,21 +28,21 @@ toldBytes s kind number item fct level =
     ++ encode (1 ∷ 1 ∷ []) (fct ∷ level ∷ [])
 
 -- FCT and level of a frame, as reading hands them on; 0 of every other item
-abbrev pub fctOf : Item → ℕ
-fctOf (Frame p h) = h .fct
-fctOf (Lost p n) = 0
-fctOf (Idle p) = 0
-fctOf (Done p) = 0
+abbrev pub itemFct : Item → ℕ
+itemFct (Frame p h) = h .fct
+itemFct (Lost p n) = 0
+itemFct (Idle p) = 0
+itemFct (Done p) = 0
 
-abbrev pub levelOf : Item → ℕ
-levelOf (Frame p h) = h .level
-levelOf (Lost p n) = 0
-levelOf (Idle p) = 0
-levelOf (Done p) = 0
+abbrev pub itemLevel : Item → ℕ
+itemLevel (Frame p h) = h .level
+itemLevel (Lost p n) = 0
+itemLevel (Idle p) = 0
+itemLevel (Done p) = 0
 
--- the same of an item
+-- a walk's bytes with an item
 unfoldable pub stepBytes : Item → State → List ℕ
-stepBytes x s = toldBytes s (kindOf x) (numberOf x) (placeOf x) (fctOf x) (levelOf x)
+stepBytes x s = toldBytes s (kindOf x) (numberOf x) (placeOf x) (itemFct x) (itemLevel x)
 
 -- the state in a walk's bytes
 unfoldable pub stateIn : List ℕ → State

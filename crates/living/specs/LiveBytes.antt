@@ -7,7 +7,7 @@ use lib.ListN.{getD}
 use Rattle.frame.specs.Rules.{_when_, first}
 use Rattle.walk.specs.declared.State.{State}
 use Rattle.walk.specs.ItemValues.{kindOf, placeOf, numberOf}
-use Rattle.block.specs.WalkBytes.{toldBytes, fctOf, levelOf, stateIn}
+use Rattle.block.specs.WalkBytes.{toldBytes, itemFct, itemLevel, stateIn}
 use Rattle.live.specs.declared.LiveStep.{LiveStep}
 use Rattle.live.specs.declared.Told.{Told}
 use Rattle.live.specs.declared.Told.the-variants.{Got, More}
@@ -32,11 +32,11 @@ toldPlace (More p) = p
 
 -- a frame's FCT and level
 abbrev pub toldFct : Told → ℕ
-toldFct (Got x) = fctOf x
+toldFct (Got x) = itemFct x
 toldFct (More p) = 0
 
 abbrev pub toldLevel : Told → ℕ
-toldLevel (Got x) = levelOf x
+toldLevel (Got x) = itemLevel x
 toldLevel (More p) = 0
 
 -- a walk's 23 bytes, as of every walk
