@@ -1,6 +1,7 @@
 //! One case through the proved exports and through this implementation.
 
 mod chains;
+mod lines;
 mod logs;
 mod looks;
 mod packets;
@@ -86,6 +87,15 @@ pub struct Tally {
     pub logs_in_parts: u64,
     pub logs_bad_everywhere: u64,
     pub logs_of_walks: u64,
+    pub lines: u64,
+    /// Answers about leased lines by their number: frames out and back, rows told, frames made again.
+    pub lines_out: [u64; 24],
+    pub lines_back: [u64; 13],
+    pub lines_told: [u64; 13],
+    pub lines_again: [u64; 24],
+    /// Check bytes given, refused; rows that are not clean, refused, clean.
+    pub check_bytes: [u64; 2],
+    pub rows: [u64; 3],
 }
 
 impl Default for Tally {
@@ -122,6 +132,13 @@ impl Default for Tally {
             logs_in_parts: 0,
             logs_bad_everywhere: 0,
             logs_of_walks: 0,
+            lines: 0,
+            lines_out: [0; 24],
+            lines_back: [0; 13],
+            lines_told: [0; 13],
+            lines_again: [0; 24],
+            check_bytes: [0; 2],
+            rows: [0; 3],
         }
     }
 }
@@ -159,6 +176,13 @@ impl AddAssign<&Tally> for Tally {
         self.logs_in_parts += other.logs_in_parts;
         self.logs_bad_everywhere += other.logs_bad_everywhere;
         self.logs_of_walks += other.logs_of_walks;
+        self.lines += other.lines;
+        add_each(&mut self.lines_out, &other.lines_out);
+        add_each(&mut self.lines_back, &other.lines_back);
+        add_each(&mut self.lines_told, &other.lines_told);
+        add_each(&mut self.lines_again, &other.lines_again);
+        add_each(&mut self.check_bytes, &other.check_bytes);
+        add_each(&mut self.rows, &other.rows);
     }
 }
 
@@ -197,6 +221,7 @@ pub fn check(sort: Sort, seed: u64, number: u64, tally: &mut Tally) -> Checked<(
         Sort::Profile => case.profile(),
         Sort::Packet => case.packet(),
         Sort::Log => case.log(),
+        Sort::Line => case.line(),
     }
 }
 
