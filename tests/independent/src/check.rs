@@ -53,11 +53,11 @@ pub struct Tally {
     /// Tests put to places, over all walks.
     pub looks: u64,
     /// Items that lines told, and how often they wanted a piece more.
-    pub line_items: u64,
-    pub line_pieces: u64,
+    pub live_items: u64,
+    pub live_waits: u64,
     /// Calls from any state, and those refused.
-    pub line_states: u64,
-    pub line_refused: u64,
+    pub live_states: u64,
+    pub live_refused: u64,
     pub chains: u64,
     /// Over all chains: the relays, those that met a wrong sum, and the chains in which nothing was damaged.
     pub relays: u64,
@@ -108,10 +108,10 @@ impl Default for Tally {
             items: [0; 4],
             limits: [0; 9],
             looks: 0,
-            line_items: 0,
-            line_pieces: 0,
-            line_states: 0,
-            line_refused: 0,
+            live_items: 0,
+            live_waits: 0,
+            live_states: 0,
+            live_refused: 0,
             chains: 0,
             relays: 0,
             wrong_sums: 0,
@@ -152,10 +152,10 @@ impl AddAssign<&Tally> for Tally {
         add_each(&mut self.items, &other.items);
         add_each(&mut self.limits, &other.limits);
         self.looks += other.looks;
-        self.line_items += other.line_items;
-        self.line_pieces += other.line_pieces;
-        self.line_states += other.line_states;
-        self.line_refused += other.line_refused;
+        self.live_items += other.live_items;
+        self.live_waits += other.live_waits;
+        self.live_states += other.live_states;
+        self.live_refused += other.live_refused;
         self.chains += other.chains;
         self.relays += other.relays;
         self.wrong_sums += other.wrong_sums;

@@ -177,10 +177,10 @@ fn report(tally: &Tally) -> ExitCode {
     println!("tests put by all walks {}", tally.looks);
     never |= tally.looks == 0;
     let lines = [
-        ("lines by pieces: items", tally.line_items),
-        ("lines by pieces: more wanted", tally.line_pieces),
-        ("lines from any state", tally.line_states),
-        ("lines refused", tally.line_refused),
+        ("lines by pieces: items", tally.live_items),
+        ("lines by pieces: more wanted", tally.live_waits),
+        ("lines by pieces: calls from any state", tally.live_states),
+        ("lines by pieces: refused", tally.live_refused),
     ];
     never |= counted(&lines);
     for (number, count) in tally.numbers.iter().enumerate() {
