@@ -1,0 +1,1 @@
+// Calls from C over a live line: definitions in specs/, theorems in proofs/.
