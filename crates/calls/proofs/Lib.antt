@@ -1,1 +1,2 @@
 pub mod CLine
+pub mod CLeased

@@ -1,1 +1,1 @@
-// Calls from C over a live line: definitions in specs/, theorems in proofs/.
+// Calls from C one after another: definitions in specs/, theorems in proofs/.
