@@ -1,12 +1,12 @@
--- A LINE FROM C IS A RUN: each call answers 0 and leaves what live's step hands back, C sees what the run hands out, and demand 3 holds of what it sees.
+-- A LINE FROM C IS A RUN: each call answers 0 and leaves what live's step hands back, C sees what the run hands out, whatever the pieces are.
 -- Assumes nothing.
 use mathlib.Core.Bool.{Bool, true, false, _&&_}
 use mathlib.Core.List.{List, [], _∷_, _++_, map, map-append}
 use mathlib.Core.Path.{_≡_, refl, sym, ap, ap₂, subst, _∙_}
-use Prim.Native.Nat.{ℕ, _+_, _-_, _*_, _^_, _≤_, _<_}
+use Prim.Native.Nat.{ℕ, _+_, _^_, _≤_, _<_}
 use native.Mathlib.Decide.{decLe}
 use native.Mathlib.Omega.{arith}
-use lib.Dec.{lit<, eqb, leb}
+use lib.Dec.{eqb, leb}
 use lib.ListN.{length, getD, drop}
 use Rattle.octets.specs.Choice.{pick}
 use Rattle.octets.specs.Words.{eightAt, bytes8}
@@ -16,8 +16,8 @@ use Rattle.walk.specs.declared.Item.{Item}
 use Rattle.walk.specs.declared.Item.the-variants.{Frame, Lost, Idle, Done}
 use Rattle.walk.specs.declared.State.{State}
 use Rattle.walk.specs.ItemValues.{placeOf}
-use Rattle.walk.specs.Records.{Allowed, allowed, start, stepAt}
-use Rattle.walk.specs.Demand3.{EndsIn, Out, outSince, framesOut}
+use Rattle.walk.specs.Records.{Allowed, stepAt}
+use Rattle.walk.specs.Demand3.{Out, outSince}
 use Rattle.walk.proofs.Limits.{allowed-is, by-limit, number-allowed, limit-kept}
 use Rattle.live.specs.declared.LiveStep.{LiveStep}
 use Rattle.live.specs.declared.Told.{Told}
@@ -26,11 +26,10 @@ use Rattle.live.specs.Live.{atStart, later, laterItem, laterStep, isDone, wants
 use Rattle.live.proofs.LiveParts.{far-step, near-step, fits}
 use Rattle.lasting.specs.LiveRuns.{handedBy, handed, called, Run, starts, comes, ends, steps}
 use Rattle.lasting.proofs.LineSteps.{spare-inside}
-use Rattle.lasting.proofs.LineDemand3.{line-intact}
 use Rattle.block.specs.WalkBytes.{toldBytes, stateIn}
 use Rattle.walks.specs.WalkCalls.{begunBytes, Limited}
 use Rattle.walks.proofs.CWalk.{Held, state-back, left-whole, left-lock, answered, begun-begins, few-misses}
-use Rattle.living.specs.LiveBytes.{moreKind, toldPlace, liveBytes, heldBy, lineOf, liveRefusalOf}
+use Rattle.living.specs.LiveBytes.{toldPlace, liveBytes, heldBy, lineOf, liveRefusalOf}
 use Rattle.living.proofs.LiveStored.{both-fit}
 use Rattle.calls.specs.LiveCalls.{lentOf, Calls, Line, begins, comes, ends, calls, itemBytes, holdsItem, seenSince, IsRun}
 
@@ -103,6 +102,25 @@ one-seen c (Got (Idle p)) table s l = one-item c _ (record { item = Idle p; tabl
 one-seen c (Got (Done p)) table s l = refl
 one-seen c (More p) table s l = refl
 
+-- all places are numbers of 64 bits
+unfoldable pub Small : List Out → Type 0
+Small [] = Unit {0}
+Small (x ∷ xs) = (placeOf (x .item) < 2 ^ 64) × Small xs
+
+small-join : (a b : List Out) → Small a → Small b → Small (a ++ b)
+unfolding Small
+small-join [] b h k = k
+small-join (x ∷ a) b h k = (h .0, small-join a b (h .1) k)
+
+one-small : (t : Told) (table : List Stream) → toldPlace t < 2 ^ 64 → Small (handedBy t table)
+unfolding Small handedBy
+one-small (Got x) table l = go (isDone x)
+  where
+    go : (b : Bool) → Small (pick b [] (record { item = x; table = table } ∷ []))
+    go true = tt
+    go false = (l, tt)
+one-small (More p) table l = tt
+
 -- ---- the walk's bytes, in a line from C
 record Sound (more : ℕ) (w : List ℕ) : Type 0 where
   whole : length w ≡ 23
@@ -159,47 +177,40 @@ pub call-is-step : {m more r : ℕ} {came w left : List ℕ} {ws : List (List �
     (r ≡ 0) × (left ≡ heldBy (called came (eqb more 1) (stateIn w))) × (stateIn left ≡ called came (eqb more 1) (stateIn w) .walk)
 call-is-step {more = more} {r} {came} {w} {left} l c = let S = sound l in let o = one-call more r came w left S c in (o .0, o .1, walk-back more r came w left S c)
 
--- A LINE FROM C IS A RUN, so all that is said of runs holds of it
-pub line-is-run : {m more : ℕ} {came w : List ℕ} {ws : List (List ℕ)} → Line m more came w ws → IsRun m more came w ws
-unfolding seenSince outSince
-line-is-run {m} (begins l) =
-    record { outs = []; run = subst (λ (s : State). Run m true [] s []) (sym (ap stateIn (begun-left l .1) ∙ begun-begins m)) starts; seen = λ c. refl }
-line-is-run (comes l piece) = let R = line-is-run l in record { outs = R .outs; run = comes (R .run) piece; seen = R .seen }
-line-is-run (ends l) = let R = line-is-run l in record { outs = R .outs; run = ends (R .run); seen = R .seen }
-line-is-run {m} (calls {more} {r} {came} {w} {left} {ws} l k) =
-    let R = line-is-run l in
+-- the run behind a line from C, and that its places are small
+pub record Behind (m more : ℕ) (came w : List ℕ) (ws : List (List ℕ)) : Type 0 where
+  pub is : IsRun m more came w ws
+  pub small : Small (is .outs)
+
+pub behind : {m more : ℕ} {came w : List ℕ} {ws : List (List ℕ)} → Line m more came w ws → Behind m more came w ws
+unfolding seenSince outSince Small
+behind {m} (begins l) =
+    record {
+      is = record { outs = []; run = subst (λ (s : State). Run m true [] s []) (sym (ap stateIn (begun-left l .1) ∙ begun-begins m)) starts; seen = λ c. refl };
+      small = tt;
+    }
+behind (comes l piece) = let B = behind l in let R = B .is in record { is = record { outs = R .outs; run = comes (R .run) piece; seen = R .seen }; small = B .small }
+behind (ends l) = let B = behind l in let R = B .is in record { is = record { outs = R .outs; run = ends (R .run); seen = R .seen }; small = B .small }
+behind {m} (calls {more} {r} {came} {w} {left} {ws} l k) =
+    let B = behind l in
+    let R = B .is in
     let S = sound l in
     let x = called came (eqb more 1) (stateIn w) in
+    let fit = step-fits more r came w left S k in
     record {
-      outs = R .outs ++ handed x;
-      run = subst (λ (s : State). Run m (eqb more 1) came s (R .outs ++ handed x)) (sym (walk-back more r came w left S k)) (steps (R .run));
-      seen = λ c.
-          seen-join c ws (left ∷ [])
-          ∙ ap₂ (λ (a b : List (List ℕ)). a ++ b) (R .seen c) (ap (λ (v : List ℕ). seenSince c (v ∷ [])) (one-call more r came w left S k .1) ∙ one-seen c (x .told) (x .table) (x .walk) (step-fits more r came w left S k .told))
-          ∙ sym (map-append itemBytes (outSince c (R .outs)) (outSince c (handed x)))
-          ∙ ap (map itemBytes) (sym (since-join c (R .outs) (handed x)));
+      is =
+          record {
+            outs = R .outs ++ handed x;
+            run = subst (λ (s : State). Run m (eqb more 1) came s (R .outs ++ handed x)) (sym (walk-back more r came w left S k)) (steps (R .run));
+            seen = λ c.
+                seen-join c ws (left ∷ [])
+                ∙ ap₂ (λ (a b : List (List ℕ)). a ++ b) (R .seen c) (ap (λ (v : List ℕ). seenSince c (v ∷ [])) (one-call more r came w left S k .1) ∙ one-seen c (x .told) (x .table) (x .walk) (fit .told))
+                ∙ sym (map-append itemBytes (outSince c (R .outs)) (outSince c (handed x)))
+                ∙ ap (map itemBytes) (sym (since-join c (R .outs) (handed x)));
+          };
+      small = small-join (R .outs) (handed x) (B .small) (one-small (x .told) (x .table) (fit .told));
     }
 
--- ---- demand 3
-more-told : (t : Told) (s : State) → getD (liveBytes t s) 11 0 ≡ moreKind → (q : ℕ) × (t ≡ More q)
-unfolding liveBytes toldBytes
-more-told (Got (Frame p h)) s e = absurd (omega arith)
-more-told (Got (Lost p n)) s e = absurd (omega arith)
-more-told (Got (Idle p)) s e = absurd (omega arith)
-more-told (Got (Done p)) s e = absurd (omega arith)
-more-told (More q) s e = (q, refl)
-
--- DEMAND 3, FIRST PART, AS C SEES IT, over the limit m: whenever a call says that more bytes are wanted and what has come ends with more than m intact frames, the calls before it
--- have left the bytes of the m-th of them and of each later one, in order, each once, and of nothing else from there on
-pub c-line-intact : {m r : ℕ} {came w left : List ℕ} {ws : List (List ℕ)} → Line m 1 came w ws → length came < far → Calls 1 came w left r → getD left 11 0 ≡ moreKind →
-    (a n : ℕ) → EndsIn came a n → m < n → seenSince (a + (m - 1) * 6144) ws ≡ map itemBytes (framesOut came (a + (m - 1) * 6144) (n - (m - 1)))
-c-line-intact {m} {r} {came} {w} {left} l h c k a n E enough =
-    let R = line-is-run l in
-    let x = called came true (stateIn w) in
-    let (q, e) = more-told (x .told) (x .walk) (ap (λ (v : List ℕ). getD v 11 0) (sym (call-is-step l c .1)) ∙ k) in
-    R .seen (a + (m - 1) * 6144) ∙ ap (map itemBytes) (line-intact (line-allowed l) (R .run) h q e a n E enough)
-
--- .. in the demand's own words: of at least four the third and every later one
-pub c-line-demand-3-first : {r : ℕ} {came w left : List ℕ} {ws : List (List ℕ)} → Line 3 1 came w ws → length came < far → Calls 1 came w left r → getD left 11 0 ≡ moreKind →
-    (a n : ℕ) → EndsIn came a n → 4 ≤ n → seenSince (a + 2 * 6144) ws ≡ map itemBytes (framesOut came (a + 2 * 6144) (n - 2))
-c-line-demand-3-first l h c k a n E f = c-line-intact l h c k a n E f
+-- A LINE FROM C IS A RUN, so all that is said of runs holds of it
+pub line-is-run : {m more : ℕ} {came w : List ℕ} {ws : List (List ℕ)} → Line m more came w ws → IsRun m more came w ws
+line-is-run l = behind l .is
