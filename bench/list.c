@@ -1,5 +1,5 @@
-/* list COMMAND FILE: the command's list over a record of full frames, made in FILE, beside the walk over the same bytes in memory and beside a process that maps the
-   file and walks it: processor time for a frame, user and system, the least of many rounds in turn. list FILE: that process. */
+/* list COMMAND FILE: the command's list over a record of full frames, made in FILE, beside three walks: over the program's own bytes, over the file's own pages, which this
+   program has mapped already, and by a process that maps the file: processor time for a frame, user and system, the least of many rounds in turn. list FILE: that process. */
 #define _DEFAULT_SOURCE
 #include "spindlewren.h"
 
@@ -13,9 +13,8 @@
 #include <sys/wait.h>
 #include <time.h>
 
-enum { ROUNDS = 20, FRAMES = 43690, FL = 1532, HEAD = 4 + 3 * 4 + 2 };
+enum { SORTS = 4, ROUNDS = 20, FRAMES = 43690, FL = 1532, HEAD = 4 + 3 * 4 + 2 };
 
-static uint8_t *record;
 static const size_t len = (size_t)FRAMES * SPINDLEWREN_FRAME;
 
 static void put_sum(uint8_t *bytes, size_t n) {
@@ -62,16 +61,17 @@ static size_t frames_of(const uint8_t *bytes, size_t n) {
     return frames;
 }
 
-static double walked(void) {
+static double walked(const uint8_t *record) {
     double began = spent();
     if (frames_of(record, len) != FRAMES) exit(1);
     return spent() - began;
 }
 
-static int mapped(const char *name) {
+static const uint8_t *mapped(const char *name) {
     int file = open(name, O_RDONLY);
     void *bytes = file < 0 ? MAP_FAILED : mmap(NULL, len, PROT_READ, MAP_PRIVATE, file, 0);
-    return bytes == MAP_FAILED || frames_of(bytes, len) != FRAMES;
+    if (bytes == MAP_FAILED) exit(1);
+    return bytes;
 }
 
 static double process(char **words) {
@@ -88,27 +88,38 @@ static double process(char **words) {
     return seconds(used.ru_utime) + seconds(used.ru_stime);
 }
 
-int main(int argc, char **argv) {
-    double least[3] = {1e9, 1e9, 1e9};
-    FILE *file = argc == 3 ? fopen(argv[2], "wb") : NULL;
+static uint8_t *made(const char *name) {
+    uint8_t *record = malloc(len);
+    FILE *file = fopen(name, "wb");
     unsigned n;
-    int i;
-    if (argc == 2) return mapped(argv[1]);
-    record = malloc(len);
-    if (file == NULL || record == NULL) return 1;
+    if (file == NULL || record == NULL) exit(1);
     for (n = 0; n < 500; n++) full_frame(record + (size_t)n * SPINDLEWREN_FRAME, n);
     for (; n < FRAMES; n++) memcpy(record + (size_t)n * SPINDLEWREN_FRAME, record + (size_t)(n % 500) * SPINDLEWREN_FRAME, SPINDLEWREN_FRAME);
-    if (fwrite(record, 1, len, file) != len || fclose(file) != 0) return 1;
+    if (fwrite(record, 1, len, file) != len || fclose(file) != 0) exit(1);
+    return record;
+}
+
+int main(int argc, char **argv) {
+    static const char *const what[SORTS] = {"the walk over bytes of the program's own", "the walk over the file's pages", "a process that maps the file and walks it", "list"};
+    double least[SORTS] = {1e9, 1e9, 1e9, 1e9};
+    const uint8_t *own, *pages;
+    unsigned n;
+    int i;
+    if (argc == 2) return frames_of(mapped(argv[1]), len) != FRAMES;
+    if (argc != 3) return 1;
+    own = made(argv[2]);
+    pages = mapped(argv[2]);
     for (n = 0; n < ROUNDS; n++) {
         char *alone[] = {argv[0], argv[2], NULL}, *list[] = {argv[1], "list", argv[2], NULL};
-        double now[3];
-        now[0] = walked();
-        now[1] = process(alone);
-        now[2] = process(list);
-        for (i = 0; i < 3; i++)
+        double now[SORTS];
+        now[0] = walked(own);
+        now[1] = walked(pages);
+        now[2] = process(alone);
+        now[3] = process(list);
+        for (i = 0; i < SORTS; i++)
             if (now[i] < least[i]) least[i] = now[i];
     }
-    printf("ns of processor for a full frame: the walk in memory %.0f, a process that maps the file and walks it %.0f, list %.0f; list / these %.2f and %.2f\n", 1e9 * least[0] / FRAMES,
-           1e9 * least[1] / FRAMES, 1e9 * least[2] / FRAMES, least[2] / least[0], least[2] / least[1]);
+    printf("ns of processor for a full frame, and list over it\n");
+    for (i = 0; i < SORTS; i++) printf("  %-42s %4.0f  %.2f\n", what[i], 1e9 * least[i] / FRAMES, least[SORTS - 1] / least[i]);
     return 0;
 }

@@ -65,8 +65,8 @@ int is_line(const char *file);
 const char *called(const char *file);
 
 /* A walk over the file or the line from its beginning: the heading, if there is one and no JSON is wanted, once nothing is refused, and then each item is told, done
-   the last, as the walk's bytes have it, with the item's bytes in the record. An item of a line is told as soon as it is there. */
-typedef void (*teller)(const uint8_t *item, const uint8_t *walk, void *to);
+   the last, as the walk's bytes have it, with the item's bytes in the record and its place. An item of a line is told as soon as it is there. */
+typedef void (*teller)(const uint8_t *item, uint64_t place, const uint8_t *walk, void *to);
 void each_item(const struct request *asked, const char *heading, teller tell, void *to);
 
 /* .. of a line. */

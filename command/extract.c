@@ -16,11 +16,12 @@ static void put(const uint8_t *bytes, struct taking *t) {
     t->bytes += t->last;
 }
 
-static void take(const uint8_t *frame, const uint8_t *walk, void *to) {
+static void take(const uint8_t *frame, uint64_t place, const uint8_t *walk, void *to) {
     static const uint8_t zeros[SPINDLEWREN_FRAME];
     struct taking *t = to;
     uint8_t part[SPINDLEWREN_PART];
     uint8_t refusal;
+    (void)place;
     if (walk[SPINDLEWREN_KIND] == SPINDLEWREN_IS_DONE) return;
     if (walk[SPINDLEWREN_KIND] != SPINDLEWREN_IS_FRAME) {
         if (!t->fill) return;

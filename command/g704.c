@@ -12,7 +12,7 @@ struct sending {
     unsigned long long sent, refused, first;
 };
 
-static void send(const uint8_t *frame, const uint8_t *walk, void *to) {
+static void send(const uint8_t *frame, uint64_t place, const uint8_t *walk, void *to) {
     static const uint8_t none[SPINDLEWREN_SYNCHRONISING];
     struct sending *s = to;
     uint8_t output[SPINDLEWREN_OUTPUT];
@@ -25,7 +25,7 @@ static void send(const uint8_t *frame, const uint8_t *walk, void *to) {
         fwrite(output, 1, sizeof output, stdout);
         s->sent++;
     } else if (s->refused++ == 0) {
-        s->first = spindlewren_number(walk, SPINDLEWREN_ITEM, 8);
+        s->first = place;
     }
 }
 

@@ -34,15 +34,16 @@ static void take_piece(struct line *line, uint64_t place) {
 void each_of_line(uint8_t *walk, teller tell, void *to) {
     static struct line line = {{0}, 0, 0, 1};
     do {
-        uint64_t from = spindlewren_number(walk, SPINDLEWREN_PLACE, 8);
+        uint64_t from = spindlewren_number(walk, SPINDLEWREN_PLACE, 8), place;
         const uint8_t *window = line.bytes + line.begin;
         /* a walk that was begun is refused nothing */
         spindlewren_live(window, line.end - line.begin, line.more, walk, SPINDLEWREN_WALK);
         line.begin += (size_t)(spindlewren_number(walk, SPINDLEWREN_PLACE, 8) - from);
+        place = spindlewren_number(walk, SPINDLEWREN_ITEM, 8);
         if (walk[SPINDLEWREN_KIND] == SPINDLEWREN_IS_MORE) {
-            take_piece(&line, spindlewren_number(walk, SPINDLEWREN_PLACE, 8));
+            take_piece(&line, place);
         } else {
-            tell(window + (spindlewren_number(walk, SPINDLEWREN_ITEM, 8) - from), walk, to);
+            tell(window + (place - from), place, walk, to);
         }
     } while (walk[SPINDLEWREN_KIND] != SPINDLEWREN_IS_DONE);
 }

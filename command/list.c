@@ -1,13 +1,20 @@
 /* list: a line for each item of a record, or of a line as it comes. */
+#define _POSIX_C_SOURCE 200809L
 #include "command.h"
 #include "json.h"
 
 #include <string.h>
+#include <unistd.h>
 
+enum { LONGEST = 96 };
+
+/* Lines gather in `text`, at most so many bytes of them, and are written out in one go: a call of stdio for each line would take as long as making it. */
 struct listing {
     size_t json;
     int coloured;
     unsigned long long lost;
+    size_t most, used;
+    char text[1 << 14];
 };
 
 static const char *const kinds[] = {"frame", "lost", "idle"};
@@ -19,20 +26,37 @@ static char *text_before(char *end, const char *text) {
     return end - len;
 }
 
-static void as_text(const struct listing *l, uint64_t place, unsigned kind, unsigned code, unsigned level) {
-    static const char *const colours[] = {"", "\033[31m", "\033[2m"}; /* lost is red, idle dim */
-    char text[96];
-    char *end = text + sizeof text, *at = text_before(end, l->coloured && kind != SPINDLEWREN_IS_FRAME ? "\033[0m\n" : "\n");
-    if (kind == SPINDLEWREN_IS_FRAME) at = number_before(at, level);
-    else *--at = '-';
+static char *frame_before(char *at, uint64_t place, unsigned fct, unsigned level) {
+    *--at = '\n';
+    *--at = (char)('0' + level);
     *--at = ' ';
-    at = number_before(at, code);
+    at = number_before(at, fct);
+    at = memcpy(at - 7, " frame ", 7);
+    return number_before(at, place);
+}
+
+/* A lost mark, which is red in colours, or an idle period, which is dim. */
+static char *refused_before(char *at, uint64_t place, unsigned kind, unsigned refusal, int coloured) {
+    at = text_before(at, coloured ? " -\033[0m\n" : " -\n");
+    at = number_before(at, refusal);
     *--at = ' ';
     at = text_before(at, kinds[kind]);
     *--at = ' ';
     at = number_before(at, place);
-    if (l->coloured) at = text_before(at, colours[kind]);
-    fwrite(at, 1, (size_t)(end - at), stdout);
+    return coloured ? text_before(at, kind == SPINDLEWREN_IS_LOST ? "\033[31m" : "\033[2m") : at;
+}
+
+static void write_out(struct listing *l) {
+    fwrite(l->text, 1, l->used, stdout);
+    l->used = 0;
+}
+
+static void as_text(struct listing *l, uint64_t place, unsigned kind, unsigned code, unsigned level) {
+    char text[LONGEST], *end = text + sizeof text;
+    char *at = kind == SPINDLEWREN_IS_FRAME ? frame_before(end, place, code, level) : refused_before(end, place, kind, code, l->coloured);
+    memcpy(l->text + l->used, at, (size_t)(end - at));
+    l->used += (size_t)(end - at);
+    if (l->used > l->most) write_out(l);
 }
 
 static void as_json(uint64_t place, unsigned kind, unsigned code, unsigned level) {
@@ -48,7 +72,8 @@ static void as_json(uint64_t place, unsigned kind, unsigned code, unsigned level
     json_end();
 }
 
-static void at_end(const struct listing *l, unsigned long long place) {
+static void at_end(struct listing *l, unsigned long long place) {
+    write_out(l);
     if (!l->json) {
         printf("end %llu\n", place);
         return;
@@ -58,9 +83,8 @@ static void at_end(const struct listing *l, unsigned long long place) {
     json_end();
 }
 
-static void line(const uint8_t *item, const uint8_t *walk, void *to) {
+static void line(const uint8_t *item, uint64_t place, const uint8_t *walk, void *to) {
     struct listing *l = to;
-    uint64_t place = spindlewren_number(walk, SPINDLEWREN_ITEM, 8);
     unsigned kind = walk[SPINDLEWREN_KIND], code = kind == SPINDLEWREN_IS_FRAME ? walk[SPINDLEWREN_ITEM_FCT] : walk[SPINDLEWREN_NUMBER];
     (void)item;
     if (kind == SPINDLEWREN_IS_DONE) {
@@ -73,7 +97,11 @@ static void line(const uint8_t *item, const uint8_t *walk, void *to) {
 }
 
 void list(const struct request *asked) {
-    struct listing l = {asked->json, coloured(), 0};
+    static struct listing l;
+    l.json = asked->json;
+    l.coloured = coloured();
+    /* what is looked at as it comes waits for nothing */
+    if (!is_line(asked->file) && !isatty(STDOUT_FILENO)) l.most = sizeof l.text - LONGEST;
     each_item(asked, "place kind code level", line, &l);
     if (asked->strict && l.lost > 0) finish(LOST_SOME);
 }

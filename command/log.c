@@ -7,9 +7,8 @@ struct logging {
     unsigned long long records;
 };
 
-static void keep(const uint8_t *item, const uint8_t *walk, void *to) {
+static void keep(const uint8_t *item, uint64_t place, const uint8_t *walk, void *to) {
     struct logging *l = to;
-    size_t place = (size_t)spindlewren_number(walk, SPINDLEWREN_ITEM, 8);
     uint8_t kind = walk[SPINDLEWREN_KIND], code = walk[SPINDLEWREN_NUMBER], level = 0xFF;
     uint8_t bytes[SPINDLEWREN_LOG_RECORD], refusal;
     (void)item;
@@ -19,7 +18,7 @@ static void keep(const uint8_t *item, const uint8_t *walk, void *to) {
         level = walk[SPINDLEWREN_ITEM_LEVEL];
     }
     /* never refused, by proof */
-    refusal = spindlewren_log_write(place, kind, code, level, bytes, sizeof bytes);
+    refusal = spindlewren_log_write((size_t)place, kind, code, level, bytes, sizeof bytes);
     if (refusal != SPINDLEWREN_ACCEPTED) refuse(l->file, refusal);
     fwrite(bytes, sizeof bytes, 1, stdout);
     l->records++;

@@ -74,9 +74,8 @@ static void as_text(unsigned long long place, const uint8_t *frame, const uint8_
     }
 }
 
-static void judge(const uint8_t *item, const uint8_t *walk, void *to) {
+static void judge(const uint8_t *item, uint64_t place, const uint8_t *walk, void *to) {
     struct count *count = to;
-    unsigned long long place = spindlewren_number(walk, SPINDLEWREN_ITEM, 8);
     uint8_t found[SPINDLEWREN_COLLISION];
     if (walk[SPINDLEWREN_KIND] != SPINDLEWREN_IS_FRAME) return;
     /* a frame that the walk hands out is accepted */

@@ -64,13 +64,11 @@ int digits(const char *word, size_t *number) {
 
 char *number_before(char *end, uint64_t n) {
     /* two digits to a division, which is what takes time */
-    for (; n >= 100; n /= 100) {
-        unsigned two = (unsigned)(n % 100);
-        *--end = (char)('0' + two % 10);
-        *--end = (char)('0' + two / 10);
-    }
-    *--end = (char)('0' + n % 10);
-    if (n >= 10) *--end = (char)('0' + n / 10);
+    static const char twos[] = "00010203040506070809101112131415161718192021222324252627282930313233343536373839404142434445464748495051525354555657585960616263646566676869"
+                               "707172737475767778798081828384858687888990919293949596979899";
+    for (; n >= 100; n /= 100) memcpy(end -= 2, twos + 2 * (n % 100), 2);
+    if (n >= 10) return memcpy(end - 2, twos + 2 * n, 2);
+    *--end = (char)('0' + n);
     return end;
 }
 

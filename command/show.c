@@ -146,12 +146,12 @@ static void tell(const struct request *asked, const uint8_t *frame, size_t place
 }
 
 /* The first frame of a walk; nothing behind it is looked at. */
-static void first(const uint8_t *item, const uint8_t *walk, void *to) {
+static void first(const uint8_t *item, uint64_t place, const uint8_t *walk, void *to) {
     uint8_t answer[SPINDLEWREN_ANSWER];
     if (walk[SPINDLEWREN_KIND] != SPINDLEWREN_IS_FRAME) return;
     /* a frame that the walk hands out is accepted */
     spindlewren_read(item, SPINDLEWREN_FRAME, answer, sizeof answer);
-    tell(to, item, (size_t)spindlewren_number(walk, SPINDLEWREN_ITEM, 8), answer);
+    tell(to, item, (size_t)place, answer);
     finish(DONE);
 }
 

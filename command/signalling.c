@@ -42,9 +42,8 @@ static void drop(const struct gathering *g, unsigned long long place) {
     json_end();
 }
 
-static void gather(const uint8_t *item, const uint8_t *walk, void *to) {
+static void gather(const uint8_t *item, uint64_t place, const uint8_t *walk, void *to) {
     struct gathering *g = to;
-    unsigned long long place = spindlewren_number(walk, SPINDLEWREN_ITEM, 8);
     uint8_t answer[SPINDLEWREN_ANSWER];
     if (walk[SPINDLEWREN_KIND] != SPINDLEWREN_IS_FRAME) return;
     /* a frame that the walk hands out is accepted, and the bytes lent have their lengths */

@@ -8,14 +8,20 @@
 /* So many bytes behind the walk are given back at a time: whole pages, whatever their size. */
 enum { BEHIND = 1 << 21 };
 
+/* .. and after so many the progress is looked at, and whether what was told could be written. */
+enum { OFTEN = 1 << 16 };
+
 static void each_of_record(struct record record, uint8_t *walk, teller tell, void *to) {
-    size_t place, behind = 0;
+    size_t place, behind = 0, heeded = 0;
     do {
         /* a walk that was begun is refused nothing */
         spindlewren_step(record.bytes, record.len, walk, SPINDLEWREN_WALK);
         place = (size_t)spindlewren_number(walk, SPINDLEWREN_ITEM, 8);
-        tell(record.bytes + place, walk, to);
-        heed(place);
+        tell(record.bytes + place, place, walk, to);
+        if (place - heeded >= OFTEN) {
+            heed(place);
+            heeded = place;
+        }
         if (place - behind >= BEHIND) {
             size_t len = (place - behind) / BEHIND * BEHIND;
             madvise((void *)(record.bytes + behind), len, MADV_DONTNEED);

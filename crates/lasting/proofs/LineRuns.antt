@@ -108,18 +108,19 @@ run-out {m} {came} {s} {xs} r h p e =
     let q : telling (stepAt came s) .told ≡ Got (Done p) = ap (λ (x : LiveStep). x .told) (sym (live-end came s (K .inside) h)) ∙ e in
     complete m came s xs p (cc) (K .holds)
 
-module _ {m : ℕ} (ok : Allowed m) {came : List ℕ} {s : State} {xs : List Out} (r : Run m true came s xs) (h : length came < far) where
-  inside : s .position .place ≤ length came
-  inside = run m r h .inside
+-- THE WINDOW BEGINS IN WHAT HAS COME
+pub run-inside : {m : ℕ} {more : Bool} {came : List ℕ} {s : State} {xs : List Out} → Run m more came s xs → length came < far → s .position .place ≤ length came
+run-inside {m} r h = run m r h .inside
 
+module _ {m : ℕ} (ok : Allowed m) {came : List ℕ} {s : State} {xs : List Out} (r : Run m true came s xs) (h : length came < far) where
   near : s .position .place + length (window came s) < far
-  near = omega (arith, room came s inside h)
+  near = omega (arith, room came s (run-inside r h) h)
 
   -- NOTHING IS HELD BACK: whenever more bytes are wanted, all that the walk over what has come hands out, as if the line ended there, was handed out
   pub run-even : (q : ℕ) → called came true s .told ≡ More q → (p : ℕ) × Complete m came xs p
   run-even q e =
       let F : Faithful m came s xs = rw (append-nil came) at (run m r h .holds []) in
-      let (p, d) = is-done (stepAt came s .item) (all-done came s inside h (shows-none (window came s) s near (fresh-wants m ok s (run-fresh m ok r h)) q e)) in
+      let (p, d) = is-done (stepAt came s .item) (all-done came s (run-inside r h) h (shows-none (window came s) s near (fresh-wants m ok s (run-fresh m ok r h)) q e)) in
       (p, complete m came s xs p d F)
 
   -- PROGRESS: a call over a window of 12,288 bytes goes further, and in lock one over 6,144
@@ -132,7 +133,7 @@ module _ {m : ℕ} (ok : Allowed m) {came : List ℕ} {s : State} {xs : List Out
 
   -- LITTLE IS KEPT: whenever more bytes are wanted, fewer than 12,288 of those that came are from the walk's place on, and in lock fewer than 6,144: so in lock a period is told with its last byte
   pub run-keeps : (q : ℕ) → called came true s .told ≡ More q → (called came true s .walk .position .place ≡ q) × (length came < q + needed (s .position .lock))
-  run-keeps q e = let (a, b) = kept (window came s) s near (fresh-wants m ok s (run-fresh m ok r h)) q e in (a, omega (arith, room came s inside h))
+  run-keeps q e = let (a, b) = kept (window came s) s near (fresh-wants m ok s (run-fresh m ok r h)) q e in (a, omega (arith, room came s (run-inside r h) h))
 
   -- IN LOCK A PERIOD IS TOLD WITH ITS LAST BYTE: where all its bytes have come, the call tells an item
   pub run-at-once : s .position .lock ≡ true → s .position .place + 6144 ≤ length came → (q : ℕ) → called came true s .told ≡ More q → ⊥

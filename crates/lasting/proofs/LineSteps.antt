@@ -112,6 +112,16 @@ done-later d (Lost p n) = refl
 done-later d (Idle p) = refl
 done-later d (Done p) = refl
 
+-- no more is forgotten than the window has
+pub spare-inside : (w : List ℕ) (lock : Bool) → spare w lock ≤ length w
+unfolding spare
+spare-inside w lock = go lock (leb 12288 (length w))
+  where
+    go : (lock b : Bool) → pick lock 0 (pick b (standing w (length w - 12287)) 0) ≤ length w
+    go true b = omega arith
+    go false true = first-inside w (length w - 12287) _ refl (omega arith)
+    go false false = omega arith
+
 -- OVER THE WINDOW of what has come
 module _ (came : List ℕ) (s : State) (inside : s .position .place ≤ length came) (near : length came < far) where
   pub room : s .position .place + length (window came s) ≡ length came
@@ -134,18 +144,13 @@ module _ (came : List ℕ) (s : State) (inside : s .position .place ≤ length c
 
   -- the next window begins in this one
   pub live-inside : (more : Bool) → liveAt (window came s) more s .walk .position .place ≤ length came
-  unfolding spare waiting waitingAt tellingAt telling laterStep later
+  unfolding waiting waitingAt tellingAt telling laterStep later
   live-inside more =
       rw (near-step (window came s) more s (omega (arith, room))) (go (isDone (stepAt (window came s) (atStart s) .item) && wants more (s .limit) (s .position .misses) (s .position .lock)))
     where
       w : List ℕ
       w = window came s
 
-      most : (lock b : Bool) → pick lock 0 (pick b (standing w (length w - 12287)) 0) ≤ length w
-      most true b = omega arith
-      most false true = first-inside w (length w - 12287) _ refl (omega arith)
-      most false false = omega arith
-
       go : (b : Bool) → pick b (waitingAt (spare w (s .position .lock)) s) (tellingAt (s .position .place) (stepAt w (atStart s))) .walk .position .place ≤ length came
-      go true = omega (arith, room, most (s .position .lock) (leb 12288 (length w)))
+      go true = omega (arith, room, spare-inside w (s .position .lock))
       go false = omega (arith, room, walk-in w (atStart s) (omega arith))

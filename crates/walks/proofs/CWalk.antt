@@ -14,9 +14,7 @@ use Rattle.octets.proofs.SplitJoin.{join-split, join-lt}
 use Rattle.octets.proofs.Storing.{alone}
 use Rattle.frame.specs.Answers.{digit}
 use Rattle.frame.specs.Writing.{Bytes}
-use Rattle.walk.specs.declared.Item.{Item}
 use Rattle.walk.specs.declared.State.{State}
-use Rattle.walk.specs.declared.Step.{Step}
 use Rattle.walk.specs.declared.Item.the-variants.{Done}
 use Rattle.walk.specs.Records.{judged, Allowed, allowed, start, stepWith, stepAt, callsAt}
 use Rattle.walk.proofs.Limits.{allowed-is, by-limit, step-is, step-outside, limit-kept}
@@ -28,10 +26,10 @@ use Rattle.walks.specs.WalkCalls.{leftBy, walkOf, begunBytes, stateRefus
 use Rattle.walks.proofs.WalkTelling.{lock-fits}
 
 -- a state that a walk's bytes can hold
-record Held (s : State) : Type 0 where
-  place : s .position .place < 2 ^ 64
-  misses : s .position .misses ≤ 255
-  limit : s .limit ≤ 255
+pub record Held (s : State) : Type 0 where
+  pub place : s .position .place < 2 ^ 64
+  pub misses : s .position .misses ≤ 255
+  pub limit : s .limit ≤ 255
 
 lock-back : (b : Bool) → eqb (digit b / 1 % 256) 1 ≡ b
 lock-back true = refl
@@ -41,15 +39,30 @@ lock-bit : (b : Bool) → digit b / 1 % 256 ≤ 1
 lock-bit true = omega arith
 lock-bit false = omega arith
 
--- read back, the state is the one that was left
-pub state-back : (x : Item) (s : State) → s .position .place < 2 ^ 64 → s .position .misses ≤ 255 → s .limit ≤ 255 → stateIn (stepBytes x s) ≡ s
-unfolding stateIn stepBytes toldBytes
-state-back x s p m n =
-    let place = join-split bytes8 (s .position .place) p in
-    let misses = alone (s .position .misses) (omega arith) in
-    let lock = lock-back (s .position .lock) in
-    let limit = alone (s .limit) (omega arith) in
-    λ i. record { limit = limit i; position = record { place = place i; misses = misses i; lock = lock i } }
+module _ (s : State) (kind number item fct level : ℕ) where
+  -- read back, the state is the one that was left, whatever is told behind it
+  pub state-back : Held s → stateIn (toldBytes s kind number item fct level) ≡ s
+  unfolding stateIn toldBytes
+  state-back h =
+      let place = join-split bytes8 (s .position .place) (h .place) in
+      let misses = alone (s .position .misses) (omega (arith, h .misses)) in
+      let lock = lock-back (s .position .lock) in
+      let limit = alone (s .limit) (omega (arith, h .limit)) in
+      λ i. record { limit = limit i; position = record { place = place i; misses = misses i; lock = lock i } }
+
+  pub left-whole : length (toldBytes s kind number item fct level) ≡ 23
+  unfolding toldBytes
+  left-whole = refl
+
+  pub left-lock : getD (toldBytes s kind number item fct level) 9 0 ≤ 1
+  unfolding toldBytes
+  left-lock = lock-bit (s .position .lock)
+
+-- where walk's bytes are 23 and nothing else is refused, a call answers 0 and leaves its bytes
+pub answered : (refusal : ℕ) (bytes w left : List ℕ) (r : ℕ) → Told 23 refusal bytes w left r → length w ≡ 23 → 0 ≡ refusal → (r ≡ 0) × (left ≡ bytes)
+answered refusal bytes w left r t whole e =
+    let z : lentRefusal 23 (length w) refusal ≡ 0 = rw (eq-eqb (length w) 23 whole) (sym e) in
+    (t .number ∙ z, t .answer ∙ (rw (eq-eqb (lentRefusal 23 (length w) refusal) 0 z)))
 
 -- a walk begun is the walk at its beginning; bytes all zero are a walk with limit 0, which is done where it is
 pub begun-begins : (m : ℕ) → stateIn (begunBytes m) ≡ start m
@@ -59,14 +72,6 @@ begun-begins m = refl
 pub zero-done : (bytes : List ℕ) → walkOf bytes (replicate 23 0) ≡ stepBytes (Done 0) (start 0)
 unfolding stateIn stepWith
 zero-done bytes = ap leftBy (done-there bytes (start 0) (inl (λ ok. let h = ok .0 in omega arith)))
-
-left-whole : (r : Step) → length (leftBy r) ≡ 23
-unfolding stepBytes toldBytes
-left-whole r = refl
-
-left-lock : (r : Step) → getD (leftBy r) 9 0 ≤ 1
-unfolding stepBytes toldBytes
-left-lock r = lock-bit (r .walk .position .lock)
 
 pub few-misses : (bytes : List ℕ) (s : State) → s .position .misses ≤ 255 → stepAt bytes s .walk .position .misses ≤ 255
 unfolding stepWith judged
@@ -88,22 +93,16 @@ module _ (bytes : List ℕ) (long : length bytes < 2 ^ 64) where
   step-held : (s : State) → Held s → Held (stepAt bytes s .walk)
   step-held s h = record { place = place-held s (h .place); misses = few-misses bytes s (h .misses); limit = rw (limit-kept bytes s) (h .limit) }
 
-  -- a call on a walk's bytes is accepted, and leaves what the step hands back
-  called : (w left : List ℕ) (r : ℕ) → length w ≡ 23 → getD w 9 0 ≤ 1 → Told 23 (stateRefusalOf w) (walkOf bytes w) w left r → (r ≡ 0) × (left ≡ walkOf bytes w)
-  called w left r whole lock t =
-      let z : lentRefusal 23 (length w) (stateRefusalOf w) ≡ 0 = rw (eq-eqb (length w) 23 whole) (sym (lock-fits w lock)) in
-      (t .number ∙ z, t .answer ∙ (rw (eq-eqb (lentRefusal 23 (length w) (stateRefusalOf w)) 0 z)))
-
   calls-are : (w : List ℕ) (ws : List (List ℕ)) (s : State) → stateIn w ≡ s → Held s → length w ≡ 23 → getD w 9 0 ≤ 1 → Called bytes w ws
       → ws ≡ map leftBy (callsAt bytes (length ws) s)
-  unfolding callsAt
+  unfolding callsAt stepBytes
   calls-are w [] s e h whole lock none = refl
   calls-are w (left ∷ ws) s e h whole lock (more {r = n} t rest) =
       let r = stepAt bytes s in
       let k = step-held s h in
-      let l : left ≡ leftBy r = called w left n whole lock t .1 ∙ ap (λ (q : State). leftBy (stepAt bytes q)) e in
-      let back : stateIn left ≡ r .walk = ap stateIn l ∙ state-back (r .item) (r .walk) (k .place) (k .misses) (k .limit) in
-      let later = calls-are left ws (r .walk) back k (ap length l ∙ left-whole r) (subst (λ (v : List ℕ). getD v 9 0 ≤ 1) (sym l) (left-lock r)) rest in
+      let l : left ≡ leftBy r = answered (stateRefusalOf w) (walkOf bytes w) w left n t whole (lock-fits w lock) .1 ∙ ap (λ (q : State). leftBy (stepAt bytes q)) e in
+      let back : stateIn left ≡ r .walk = ap stateIn l ∙ state-back (r .walk) _ _ _ _ _ k in
+      let later = calls-are left ws (r .walk) back k (ap length l ∙ left-whole (r .walk) _ _ _ _ _) (subst (λ (v : List ℕ). getD v 9 0 ≤ 1) (sym l) (left-lock (r .walk) _ _ _ _ _)) rest in
       λ i. l i ∷ later i
 
   -- over any 23 bytes with a lock byte of 0 or 1, and over those of a walk begun: the calls leave what repeated steps hand back, items and states

@@ -1,6 +1,7 @@
 //! One case through the proved exports and through this implementation.
 
 mod chains;
+mod lines;
 mod logs;
 mod looks;
 mod packets;
@@ -52,11 +53,11 @@ pub struct Tally {
     /// Tests put to places, over all walks.
     pub looks: u64,
     /// Items that lines told, and how often they wanted a piece more.
-    pub line_items: u64,
-    pub line_pieces: u64,
+    pub live_items: u64,
+    pub live_waits: u64,
     /// Calls from any state, and those refused.
-    pub line_states: u64,
-    pub line_refused: u64,
+    pub live_states: u64,
+    pub live_refused: u64,
     pub chains: u64,
     /// Over all chains: the relays, those that met a wrong sum, and the chains in which nothing was damaged.
     pub relays: u64,
@@ -86,6 +87,15 @@ pub struct Tally {
     pub logs_in_parts: u64,
     pub logs_bad_everywhere: u64,
     pub logs_of_walks: u64,
+    pub lines: u64,
+    /// Answers about leased lines by their number: frames out and back, rows told, frames made again.
+    pub lines_out: [u64; 24],
+    pub lines_back: [u64; 13],
+    pub lines_told: [u64; 13],
+    pub lines_again: [u64; 24],
+    /// Check bytes given, refused; rows that are not clean, refused, clean.
+    pub check_bytes: [u64; 2],
+    pub rows: [u64; 3],
 }
 
 impl Default for Tally {
@@ -98,10 +108,10 @@ impl Default for Tally {
             items: [0; 4],
             limits: [0; 9],
             looks: 0,
-            line_items: 0,
-            line_pieces: 0,
-            line_states: 0,
-            line_refused: 0,
+            live_items: 0,
+            live_waits: 0,
+            live_states: 0,
+            live_refused: 0,
             chains: 0,
             relays: 0,
             wrong_sums: 0,
@@ -122,6 +132,13 @@ impl Default for Tally {
             logs_in_parts: 0,
             logs_bad_everywhere: 0,
             logs_of_walks: 0,
+            lines: 0,
+            lines_out: [0; 24],
+            lines_back: [0; 13],
+            lines_told: [0; 13],
+            lines_again: [0; 24],
+            check_bytes: [0; 2],
+            rows: [0; 3],
         }
     }
 }
@@ -135,10 +152,10 @@ impl AddAssign<&Tally> for Tally {
         add_each(&mut self.items, &other.items);
         add_each(&mut self.limits, &other.limits);
         self.looks += other.looks;
-        self.line_items += other.line_items;
-        self.line_pieces += other.line_pieces;
-        self.line_states += other.line_states;
-        self.line_refused += other.line_refused;
+        self.live_items += other.live_items;
+        self.live_waits += other.live_waits;
+        self.live_states += other.live_states;
+        self.live_refused += other.live_refused;
         self.chains += other.chains;
         self.relays += other.relays;
         self.wrong_sums += other.wrong_sums;
@@ -159,6 +176,13 @@ impl AddAssign<&Tally> for Tally {
         self.logs_in_parts += other.logs_in_parts;
         self.logs_bad_everywhere += other.logs_bad_everywhere;
         self.logs_of_walks += other.logs_of_walks;
+        self.lines += other.lines;
+        add_each(&mut self.lines_out, &other.lines_out);
+        add_each(&mut self.lines_back, &other.lines_back);
+        add_each(&mut self.lines_told, &other.lines_told);
+        add_each(&mut self.lines_again, &other.lines_again);
+        add_each(&mut self.check_bytes, &other.check_bytes);
+        add_each(&mut self.rows, &other.rows);
     }
 }
 
@@ -197,6 +221,7 @@ pub fn check(sort: Sort, seed: u64, number: u64, tally: &mut Tally) -> Checked<(
         Sort::Profile => case.profile(),
         Sort::Packet => case.packet(),
         Sort::Log => case.log(),
+        Sort::Line => case.line(),
     }
 }
 

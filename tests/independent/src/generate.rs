@@ -1,7 +1,8 @@
-//! Seeded cases: frames, field sets for writing, records, frames with signalling, chains of relays, records whose every place is asked about, tables for the profile, EDI packets, and fault logs.
+//! Seeded cases: frames, field sets for writing, records, frames with signalling, chains of relays, records whose every place is asked about, tables for the profile, EDI packets, fault logs, and leased lines.
 
 pub mod chains;
 pub mod frames;
+pub mod lines;
 pub mod logs;
 pub mod packets;
 pub mod profiles;
@@ -22,6 +23,7 @@ pub enum Sort {
     Profile = 7,
     Packet = 8,
     Log = 9,
+    Line = 10,
 }
 
 /// Splitmix64.

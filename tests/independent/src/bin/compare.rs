@@ -7,7 +7,7 @@ use std::thread;
 use std::time::{Duration, Instant};
 
 const USAGE: &str =
-    "usage: compare [--seed N] [--frames N] [--records N] [--signals N] [--chains N] [--places N] [--profiles N] [--packets N] [--logs N] [--seconds N]";
+    "usage: compare [--seed N] [--frames N] [--records N] [--signals N] [--chains N] [--places N] [--profiles N] [--packets N] [--logs N] [--lines N] [--seconds N]";
 const THREADS: u64 = 2;
 /// A message, and the numbers that signalling tells or refuses with.
 const SIGNAL_NUMBERS: [usize; 7] = [0, 1, 12, 24, 25, 26, 36];
@@ -21,6 +21,11 @@ const PACKET_NUMBERS: [usize; 10] = [0, 1, 7, 8, 10, 12, 20, 21, 22, 35];
 /// Done, and the numbers that logs, entries and sheets are refused with.
 const LOG_NUMBERS: [usize; 7] = [0, 1, 12, 28, 29, 34, 37];
 
+/// Sent over a leased line, and what that is refused with; frames made again; rows told, and the way back.
+const OUT_NUMBERS: [usize; 13] = [0, 1, 2, 3, 4, 5, 6, 7, 8, 9, 10, 12, 23];
+const AGAIN_NUMBERS: [usize; 9] = [0, 1, 5, 6, 7, 8, 9, 12, 23];
+const BACK_NUMBERS: [usize; 3] = [0, 1, 12];
+
 struct Options {
     seed: u64,
     frames: u64,
@@ -32,6 +37,8 @@ struct Options {
     profiles: u64,
     packets: u64,
     logs: u64,
+    /// Leased lines.
+    lines: u64,
     /// Rounds go on until the time is up.
     seconds: Option<u64>,
 }
@@ -71,6 +78,7 @@ fn options(mut arguments: impl Iterator<Item = String>) -> Result<Options, Strin
         profiles: 40_000,
         packets: 20_000,
         logs: 20_000,
+        lines: 20_000,
         seconds: None,
     };
     while let Some(name) = arguments.next() {
@@ -86,6 +94,7 @@ fn options(mut arguments: impl Iterator<Item = String>) -> Result<Options, Strin
             "--profiles" => options.profiles = value,
             "--packets" => options.packets = value,
             "--logs" => options.logs = value,
+            "--lines" => options.lines = value,
             "--seconds" => options.seconds = Some(value),
             _ => return Err(format!("{name} is not known")),
         }
@@ -142,6 +151,7 @@ fn part(seed: u64, options: &Options, thread: u64) -> Result<Tally, Found> {
         (Sort::Profile, options.profiles),
         (Sort::Packet, options.packets),
         (Sort::Log, options.logs),
+        (Sort::Line, options.lines),
     ];
     for (sort, count) in sorts {
         for case in (thread..count).step_by(THREADS as usize) {
@@ -167,10 +177,10 @@ fn report(tally: &Tally) -> ExitCode {
     println!("tests put by all walks {}", tally.looks);
     never |= tally.looks == 0;
     let lines = [
-        ("lines by pieces: items", tally.line_items),
-        ("lines by pieces: more wanted", tally.line_pieces),
-        ("lines from any state", tally.line_states),
-        ("lines refused", tally.line_refused),
+        ("lines by pieces: items", tally.live_items),
+        ("lines by pieces: more wanted", tally.live_waits),
+        ("lines by pieces: calls from any state", tally.live_states),
+        ("lines by pieces: refused", tally.live_refused),
     ];
     never |= counted(&lines);
     for (number, count) in tally.numbers.iter().enumerate() {
@@ -194,6 +204,7 @@ fn report(tally: &Tally) -> ExitCode {
         tally.logs
     );
     never |= never_met("logs", &LOG_NUMBERS, &tally.log_numbers) || sorts.contains(&0);
+    never |= leased_lines(tally);
     let chains = [
         ("chains", tally.chains),
         ("relays in chains", tally.relays),
@@ -212,11 +223,29 @@ fn report(tally: &Tally) -> ExitCode {
     never |= tally.every_place == 0 || asked.concat().contains(&0);
     let counts = [&tally.numbers[..], &tally.items, &tally.limits];
     if never || counts.concat().contains(&0) {
-        println!("a number, a kind of item, a limit or a reason was never met");
+        println!("a number, a kind of item or row, a limit or a reason was never met");
         return ExitCode::FAILURE;
     }
     println!("no mismatch");
     ExitCode::SUCCESS
+}
+
+/// Prints what was met on leased lines; whether a number or a kind of row never was.
+fn leased_lines(tally: &Tally) -> bool {
+    println!("leased lines {}", tally.lines);
+    let mut never = never_met("leased lines out", &OUT_NUMBERS, &tally.lines_out);
+    never |= never_met("leased lines back", &BACK_NUMBERS, &tally.lines_back);
+    never |= never_met("leased lines' rows", &BACK_NUMBERS, &tally.lines_told);
+    never |= never_met("leased lines again", &AGAIN_NUMBERS, &tally.lines_again);
+    let ([given, no_check_bytes], [spoilt, no_row, clean]) = (tally.check_bytes, tally.rows);
+    let rows = [
+        ("check bytes given", given),
+        ("check bytes refused", no_check_bytes),
+        ("rows clean", clean),
+        ("rows not clean", spoilt),
+        ("rows refused", no_row),
+    ];
+    never | counted(&rows)
 }
 
 /// Prints each count; whether one is 0.

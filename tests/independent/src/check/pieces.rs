@@ -128,7 +128,7 @@ impl Case<'_> {
 
     /// Nothing is sure yet; nothing is forgotten that may still matter, and few bytes are kept.
     fn more_wanted(&mut self, what: &str, line: &mut Line, before: State) -> Checked<()> {
-        self.tally.line_pieces += 1;
+        self.tally.live_waits += 1;
         let sure = is_sure(&line.record[..line.came], before, &mut line.settled);
         self.same("line: nothing is sure", &sure, &false)?;
         self.wanted(what, &line.walk, before, line.came, line.settled)
@@ -170,7 +170,7 @@ impl Case<'_> {
         before: State,
         more: bool,
     ) -> Checked<bool> {
-        self.tally.line_items += 1;
+        self.tally.live_items += 1;
         let (item, next) = step(line.record, line.state);
         self.same(what, &line.walk[..], &abi::walk_bytes(&item, next))?;
         let done = matches!(item, Item::Done(_));
@@ -218,7 +218,7 @@ impl Case<'_> {
 
     /// 1 for a length, whatever the bytes are; else 12 for a lock byte or a `more` above 1.
     fn refused_line(&mut self, window: &[u8], mut more: u8, mut walk: Vec<u8>) -> Checked<()> {
-        self.tally.line_refused += 1;
+        self.tally.live_refused += 1;
         let length = self.random.pick(&[0, 10, 11, 21, 22, 24, 46]);
         let wide = self.random.pick(&[2, 3, 128, 255]);
         match self.random.below(3) {
@@ -239,7 +239,7 @@ impl Case<'_> {
 
     /// What the window as a record would give, counted from the line's beginning, but for a done while more may come.
     fn line_from(&mut self, window: &[u8], state: State, more: u8, walk: Vec<u8>) -> Checked<()> {
-        self.tally.line_states += 1;
+        self.tally.live_states += 1;
         let what = format!("line of {} bytes from {state:?}, more {more}", window.len());
         let walk = self.called(&what, window, more, &walk)?;
         if is_over(state, window.len()) {

@@ -1,0 +1,3 @@
+pub mod CLine
+pub mod CLineDemand3
+pub mod CLeased

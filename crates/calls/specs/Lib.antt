@@ -1,0 +1,2 @@
+pub mod LiveCalls
+pub mod LineTrips

@@ -1,0 +1,1 @@
+// Calls from C one after another: definitions in specs/, theorems in proofs/.
