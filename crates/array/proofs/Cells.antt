@@ -9,7 +9,7 @@ use borrow.Author.Tests.{ltb-true, ltb-false, lt-ltb, le-ltb, eqb-false, ne-eqb}
 use lib.Arith.{digits-div, digits-mod}
 use lib.Dec.{eqb, ltb, lit<, lit≤}
 use Rattle.octets.specs.Choice.{pick}
-use Rattle.array.specs.CodingArray.{Wide, superblock, upperRow, carried, widthOf, taken, indexAt, spread, rowIn, columnIn, rowOf, columnOf}
+use Rattle.array.specs.CodingArray.{Wide, superblock, upperRow, carried, widthOf, taken, indexAt, spread, rowIn, columnIn, rowOf, columnOf, HasCell, HasByte}
 
 -- both variants
 pub wide : (fourteen : Bool) → Wide (widthOf fourteen)
@@ -132,14 +132,8 @@ module _ {w : ℕ} (W : Wide w) where
           let m = mul-le-mul-right w (ltb-false (i % 8) 2 e) in
           rw e (omega arith)
 
-  -- each information byte has a cell of its own, and is the byte of that cell
-  pub record Placed (n : ℕ) : Type 0 where
-    pub row : rowOf w n < 24
-    pub column : columnOf w n < w
-    pub free : taken (rowOf w n) (columnOf w n) ≡ false
-    pub back : indexAt w (rowOf w n) (columnOf w n) ≡ n
-
-  pub placed : (n : ℕ) → n < carried w → Placed n
+  -- each information byte has a cell
+  pub placed : (n : ℕ) → n < carried w → HasCell w n
   unfolding rowOf columnOf
   placed n h =
       let b = superblock w in
@@ -159,13 +153,8 @@ module _ {w : ℕ} (W : Wide w) where
         back = split (s * 8 + k) j m ∙ rw (q, r) (ap (λ (x : ℕ). s * b + x) (c .index) ∙ div-add-mod' n b);
       }
 
-  -- each free cell has an information byte, whose cell it is
-  pub record Held (i j : ℕ) : Type 0 where
-    pub inside : indexAt w i j < carried w
-    pub row : rowOf w (indexAt w i j) ≡ i
-    pub column : columnOf w (indexAt w i j) ≡ j
-
-  pub held : (i j : ℕ) → i < 24 → j < w → taken i j ≡ false → Held i j
+  -- each free cell has an information byte
+  pub held : (i j : ℕ) → i < 24 → j < w → taken i j ≡ false → HasByte w i j
   unfolding rowOf columnOf
   held i j h l f =
       let b = superblock w in

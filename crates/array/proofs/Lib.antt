@@ -1,5 +1,5 @@
 pub mod Filling
 pub mod Cells
 pub mod Sending
-pub mod Sizes
+pub mod PartSizes
 pub mod ThereAndBack

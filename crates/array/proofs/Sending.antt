@@ -11,14 +11,8 @@ use lib.Dec.{lit<}
 use lib.ListN.{length, getD}
 use Rattle.array.specs.Listed.{list}
 use Rattle.array.specs.CodingArray.{Parts, at}
-use Rattle.array.specs.OutputArray.{interleaved, sent, place, received, rowAt, columnAt, outputAt, arrayRow, arrayOf}
+use Rattle.array.specs.OutputArray.{interleaved, sent, place, received, rowAt, columnAt, outputAt, arrayRow, arrayOf, Sent, Received}
 use Rattle.array.proofs.Filling.{list-at, list-eq}
-
-pub record Sent (i j : ℕ) : Type 0 where
-  pub inside : place i j < 6144
-  pub between : (place i j % 16 ≡ 0) → ⊥
-  pub row : rowAt (place i j) ≡ i
-  pub column : columnAt (place i j) ≡ j
 
 received-sent : (p : ℕ) → received (sent p) ≡ p
 received-sent p = omega arith
@@ -43,11 +37,6 @@ sent-at i j h l =
       row = rw (e, super-of i j l, row-of i j) (div-add-mod' i 8);
       column = rw e (column-of i j l);
     }
-
-pub record Received (q : ℕ) : Type 0 where
-  pub row : rowAt q < 24
-  pub column : columnAt q < 240
-  pub back : place (rowAt q) (columnAt q) ≡ q
 
 received-lt : (q : ℕ) → q < 6144 → (q % 16 ≡ 0 → ⊥) → received q < 5760
 received-lt q h f = omega arith

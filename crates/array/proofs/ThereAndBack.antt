@@ -12,16 +12,12 @@ use lib.Dec.{eqb, ltb, lit<}
 use lib.ListN.{length, getD}
 use Rattle.octets.specs.Choice.{pick}
 use Rattle.array.specs.Listed.{list}
-use Rattle.array.specs.CodingArray.{Wide, carried, Parts, taken, indexAt, contents, codingRow, codingArray, at, rowOf, columnOf, informationOf, blocksOf, checkOf}
+use Rattle.array.specs.CodingArray.{Wide, carried, Parts, taken, indexAt, contents, codingRow, codingArray, at, rowOf, columnOf, informationOf, blocksOf, checkOf, filled}
 use Rattle.array.specs.OutputArray.{rowAt, columnAt, outputAt, outputOf, arrayOf, gBytesOf, partsOf}
 use Rattle.array.specs.PartLengths.{Sized}
 use Rattle.array.proofs.Cells.{placed, held}
 use Rattle.array.proofs.Filling.{list-at, list-length, list-same, list-all}
 use Rattle.array.proofs.Sending.{Array, received-at, array-of-at, array-back}
-
--- what comes back of the information: all that the variant carries, FF behind its last byte
-abbrev pub filled : ℕ → List ℕ → List ℕ
-filled w information = list (λ n. getD information n 0xFF) (carried w)
 
 -- what stands in a cell
 pub array-at : (w : ℕ) (p : Parts) (i j : ℕ) → i < 24 → j < 240 → at (codingArray w p) i j ≡ contents w p i j

@@ -1,8 +1,9 @@
 -- Clauses 8.4.2.1 and 8.4.3.1 of ETS 300 799: what stands where in the coding array C of 24 rows by 240 columns, over the row's information width w,
 -- 235 for the variant of 5,592 information bytes and 226 for that of 5,376.
 -- Assumes nothing.
-use mathlib.Core.Bool.{Bool, _&&_}
+use mathlib.Core.Bool.{Bool, false, _&&_}
 use mathlib.Core.List.{List, []}
+use mathlib.Core.Path.{_≡_}
 use Prim.Native.Nat.{ℕ, _+_, _-_, _*_, _/_, _%_, _<_, _≤_}
 use lib.Dec.{eqb, ltb}
 use lib.ListN.{getD}
@@ -101,3 +102,20 @@ blocksOf first c = list (λ n. at c (n / 8 * 8 + first) (n % 8 * 30)) 24
 
 unfoldable pub checkOf : ℕ → List (List ℕ) → List ℕ
 checkOf w c = list (λ n. at c (n / (240 - w)) (w + n % (240 - w))) (24 * (240 - w))
+
+-- what comes back of the information: all that the variant carries, FF behind its last byte
+abbrev pub filled : ℕ → List ℕ → List ℕ
+filled w information = list (λ n. getD information n 0xFF) (carried w)
+
+-- information byte n has a cell of its own, free for it, and is the byte of that cell
+pub record HasCell (w n : ℕ) : Type 0 where
+  pub row : rowOf w n < 24
+  pub column : columnOf w n < w
+  pub free : taken (rowOf w n) (columnOf w n) ≡ false
+  pub back : indexAt w (rowOf w n) (columnOf w n) ≡ n
+
+-- cell i, j has an information byte, whose cell it is
+pub record HasByte (w i j : ℕ) : Type 0 where
+  pub inside : indexAt w i j < carried w
+  pub row : rowOf w (indexAt w i j) ≡ i
+  pub column : columnOf w (indexAt w i j) ≡ j

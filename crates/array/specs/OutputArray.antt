@@ -1,7 +1,8 @@
 -- Clauses 8.4.2.2, 8.4.2.3 and 8.4.3.2, 8.4.3.3 of ETS 300 799: interleaving and the output array O of 6,144 bytes.
 -- Assumes nothing.
 use mathlib.Core.List.{List}
-use Prim.Native.Nat.{ℕ, _+_, _-_, _*_, _/_, _%_}
+use mathlib.Core.Path.{_≡_}
+use Prim.Native.Nat.{ℕ, _+_, _-_, _*_, _/_, _%_, _<_}
 use lib.Dec.{eqb}
 use lib.ListN.{getD}
 use Rattle.octets.specs.Choice.{pick}
@@ -62,3 +63,16 @@ partsOf w o =
       signalling = gBytesOf 16 o;
       check = checkOf w (arrayOf o);
     }
+
+-- cell i, j has a place of its own in the output array, between the bytes of G.704, and comes back from it
+pub record Sent (i j : ℕ) : Type 0 where
+  pub inside : place i j < 6144
+  pub between : (place i j % 16 ≡ 0) → ⊥
+  pub row : rowAt (place i j) ≡ i
+  pub column : columnAt (place i j) ≡ j
+
+-- place q of the output array has a cell, whose place it is
+pub record Received (q : ℕ) : Type 0 where
+  pub row : rowAt q < 24
+  pub column : columnAt q < 240
+  pub back : place (rowAt q) (columnAt q) ≡ q

@@ -11,7 +11,7 @@ use Rattle.octets.proofs.Storing.{put-chain, alone, low-byte}
 use Rattle.frame.specs.Answers.{digit}
 use Rattle.walk.specs.declared.State.{State}
 use Rattle.encoded.specs.AnswerBytes.{encode}
-use Rattle.encoded.proofs.Tables.{digit-alone}
+use Rattle.encoded.proofs.EntryBytes.{digit-alone}
 use Rattle.block.specs.WalkBytes.{marksCounts, marksValues, toldBytes}
 
 pub told-stored : (s : State) (kind number item fct level lock : ℕ) (l a b d e : List ℕ) → 23 ≤ length l → kind < 256 → number < 256 → fct < 256 → level < 256 → lock ≡ digit (s .position .lock)

@@ -18,8 +18,8 @@ use Rattle.homeward.specs.WayBack.{backRefusal, Returns}
 use Rattle.line.specs.NetworkOut.{logicalLength, withFrame, frameRefusal, SendsFrame}
 use Rattle.line.proofs.FrameOut.{lengths-asked}
 use Rattle.remade.specs.ReadAlike.{ReadAlike}
-use Rattle.remade.specs.Remaking.{MakesFrame}
-use Rattle.remade.proofs.Again.{Own, accepted, carries, same-reading, same-frame}
+use Rattle.remade.specs.Remaking.{MakesFrame, Own}
+use Rattle.remade.proofs.Again.{same-reading, same-frame}
 use Rattle.lines.specs.LinesBoundary.{variantRefusal, widthBy, isOther}
 use Rattle.calls.specs.LineTrips.{Trip, Lengths, Sendable}
 
@@ -80,7 +80,7 @@ module _ (variant choice level : ℕ) (f : List ℕ) (t : Trip variant choice le
   makes : MakesFrame (eqb variant 5376) (isOther choice) level (t .parts .information) (t .frameRoom) (t .made) (t .remade)
   makes = let n = t .frame .number in record { number = rw (g .known) at n; bytes = t .frame .bytes }
 
-  own : Own f (accepted (eqb variant 5376) f _ _ _ _ _ _ _ sends out-goes) w (carries (eqb variant 5376) f _ _ _ _ _ _ _ sends out-goes) (isOther choice) level
+  own : Own f (isOther choice) level
   own = record { status = g .status; sync = g .sync }
 
   -- READ ALIKE: all three calls answer 0, and the frame made is read with the same fields, entries, FIC and streams, whatever its padding was

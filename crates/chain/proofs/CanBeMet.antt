@@ -7,19 +7,14 @@ use native.Mathlib.Omega.{arith}
 use borrow.Author.Tests.{eq-eqb}
 use lib.ListN.{length, set, length-set}
 use lib.Seq.{getD-set-other}
-use Rattle.frame.specs.Frame.{nstOf, mainStart, mainOf}
+use Rattle.frame.specs.Frame.{nstOf, mainStart}
 use Rattle.frame.specs.Rules.{refusalOf}
-use Rattle.frame.specs.Writing.{frameIn, Bytes}
-use Rattle.relay.specs.Relaying.{fieldsFor, relayRefusalOf}
+use Rattle.frame.specs.Writing.{Bytes}
+use Rattle.relay.specs.Relaying.{relayRefusalOf}
 use Rattle.relay.proofs.Hop.{same-for}
-use Rattle.chain.specs.Chains.{Arrives, Relay, Link}
+use Rattle.chain.specs.Chains.{Arrives, Link, relaying}
 use Rattle.chain.proofs.Heads.{same-refusal}
 use Rattle.chain.proofs.Hops.{none}
-
--- the relay at which these bytes arrive, with this output
-abbrev relaying : List ℕ → List ℕ → Relay
-relaying arrived was =
-    record { arrived = arrived; was = was; left = frameIn (fieldsFor arrived) (mainOf arrived); number = 0 }
 
 pub goes-on : (sent arrived was : List ℕ) → refusalOf sent ≡ 0 → Arrives sent arrived → Bytes arrived → length was ≡ 6144 → Link sent (relaying arrived was)
 goes-on sent arrived was z a b l =

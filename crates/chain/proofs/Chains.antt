@@ -15,7 +15,7 @@ use Rattle.frame.specs.Answers.{PartAt, headerFor}
 use Rattle.frame.specs.Writing.{Clean}
 use Rattle.frame.proofs.Accepting.{acceptable, accepted}
 use Rattle.frame.proofs.Places.{status-placed}
-use Rattle.chain.specs.Chains.{Relay, Link, Chain, endOf, lastOf, Each, Some, levelIn, MetWrong, calledFor, worst, levelDue, LevelAtEnd, Passes, Unwashed, Undamaged, MainKept, SameParts}
+use Rattle.chain.specs.Chains.{Relay, Link, Chain, endOf, lastOf, Each, Some, levelIn, MetWrong, calledFor, worst, levelDue, LevelAtEnd, PassesOn, Unwashed, Undamaged, MainKept, SameParts}
 use Rattle.chain.proofs.Heads.{same-refusal, err-kept, nst-kept, ficl-kept, streams-kept}
 use Rattle.chain.proofs.Hops.{level-worse, Leaves, leaves, passes, same-parts}
 
@@ -28,7 +28,7 @@ module _ (sent : List ℕ) (r : Relay) (z : refusalOf sent ≡ 0) (k : Link sent
   arrived-accepted : refusalOf (r .arrived) ≡ 0
   arrived-accepted = same-refusal sent (r .arrived) (k .way) ∙ z
 
-  link-passes : Passes r
+  link-passes : PassesOn r
   link-passes = passes (r .arrived) (r .was) (r .left) (r .number) arrived-accepted (k .lent) (k .relayed)
 
   hop : Leaves (r .arrived) (r .left)
@@ -50,18 +50,18 @@ module _ (sent : List ℕ) (r : Relay) (z : refusalOf sent ≡ 0) (k : Link sent
       (link-passes .main ∙ e)
 
 -- ---- NO RELAY REFUSES
-each-passes : (first : List ℕ) (rs : List Relay) → refusalOf first ≡ 0 → Chain first rs → Each Passes rs
+each-passes : (first : List ℕ) (rs : List Relay) → refusalOf first ≡ 0 → Chain first rs → Each PassesOn rs
 each-passes first [] z c = tt
 each-passes first (r ∷ rs) z c =
     let p = link-passes first r z (c .0) in
     (p, each-passes (r .left) rs (p .accepted) (c .1))
 
 module _ (first : List ℕ) (rs : List Relay) (a : Acceptable first) (c : Chain first rs) where
-  pub all-pass : Each Passes rs
+  pub all-pass : Each PassesOn rs
   all-pass = each-passes first rs (accepted first a) c
 
   pub none-refuses : Each (λ r. r .number ≡ 0) rs
-  none-refuses = each Passes (λ r. r .number ≡ 0) (λ r p. p .number) rs all-pass
+  none-refuses = each PassesOn (λ r. r .number ≡ 0) (λ r p. p .number) rs all-pass
 
 -- ---- THE LEVEL AT THE END
 worse : (sent left met rest : ℕ) → left ≡ max sent met → max left rest ≡ max sent (max met rest)
@@ -76,7 +76,7 @@ level-after first (r ∷ rs) z c =
     level-after (r .left) rs (link-passes first r z (c .0) .accepted) (c .1)
     ∙ worse (levelIn first) (levelIn (r .left)) (calledFor r) (worst (map calledFor rs)) (link-level first r z (c .0))
 
-last-passes : (first : List ℕ) (r : Relay) (rs : List Relay) → Each Passes (r ∷ rs) → Passes (lastOf r rs) × (endOf first (r ∷ rs) ≡ lastOf r rs .left)
+last-passes : (first : List ℕ) (r : Relay) (rs : List Relay) → Each PassesOn (r ∷ rs) → PassesOn (lastOf r rs) × (endOf first (r ∷ rs) ≡ lastOf r rs .left)
 last-passes first r [] p = (p .0, refl)
 last-passes first r (q ∷ rs) p = last-passes (r .left) q rs (p .1)
 
@@ -133,7 +133,7 @@ two-or-three (suc (suc (suc (suc n)))) l h = absurd (omega arith)
 raised : (n k m : ℕ) → n ≡ max k m → m ≡ 2 → 2 ≤ n
 raised n k m e h = omega arith
 
-unwashed : (r : Relay) → Passes r → MetWrong r → Unwashed (r .left)
+unwashed : (r : Relay) → PassesOn r → MetWrong r → Unwashed (r .left)
 unfolding headerFor
 unwashed r p h =
     let read = p .read in
@@ -146,7 +146,7 @@ unwashed r p h =
     }
 
 pub not-washed : (first : List ℕ) (rs : List Relay) → Acceptable first → Chain first rs → Each (λ r. MetWrong r → Unwashed (r .left)) rs
-not-washed first rs a c = each Passes (λ r. MetWrong r → Unwashed (r .left)) unwashed rs (all-pass first rs a c)
+not-washed first rs a c = each PassesOn (λ r. MetWrong r → Unwashed (r .left)) unwashed rs (all-pass first rs a c)
 
 -- ---- WITH NO DAMAGE AT ALL EVERY STREAM ARRIVES BYTE FOR BYTE
 parts-after : (first : List ℕ) (rs : List Relay) → refusalOf first ≡ 0 → Chain first rs → MainKept first rs → SameParts first (endOf first rs)

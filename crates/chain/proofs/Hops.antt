@@ -14,7 +14,7 @@ use Rattle.frame.specs.declared.Stream.{Stream}
 use Rattle.frame.specs.Frame.{nstOf, ficfOf, ficlBy, ficlOf, streamOf, streamsTo, streamsOf, stlTotal, ficSpan, streamSpan, cut, mainOf, levelBy, levelOf}
 use Rattle.frame.specs.Rules.{_when_, first, rulesOf, refusalOf, streamRefusalOf, ficPart, streamPart}
 use Rattle.frame.specs.Answers.{noStream, tableBy, headerFor}
-use Rattle.frame.specs.Writing.{frameIn}
+use Rattle.frame.specs.Writing.{frameIn, Returned}
 use Rattle.frame.proofs.Accepting.{nothing, acceptable, request-beyond, request-within}
 use Rattle.frame.proofs.FirstRule.{first-zero}
 use Rattle.frame.proofs.Headers.{digit-of, ficf-lt}
@@ -23,10 +23,10 @@ use Rattle.frame.proofs.Tiling.{granted-refused, granted-given, fic-of-main, st
 use Rattle.trips.proofs.Agree.{Agree, agree}
 use Rattle.trips.proofs.Fitting.{clean-level}
 use Rattle.trips.proofs.Writable.{writable}
-use Rattle.trips.proofs.Written.{Returned, written-read}
+use Rattle.trips.proofs.Written.{written-read}
 use Rattle.relay.specs.Relaying.{fieldsFor, relayRefusalOf, Relays}
 use Rattle.relay.proofs.Hop.{entries-for, number-for}
-use Rattle.chain.specs.Chains.{levelIn, sumRight, Passes, SameParts}
+use Rattle.chain.specs.Chains.{levelIn, sumRight, PassesOn, SameParts}
 
 -- the level handed on is the worse of the level read and what the sum calls for
 pub level-worse : (f : List ℕ) → levelOf f ≡ max (levelIn f) (pick (sumRight f) 0 2)
@@ -78,7 +78,7 @@ module _ (f was left : List ℕ) (n : ℕ) (z : refusalOf f ≡ 0) (l : length w
         streams = returned .streams ∙ entries-for f z;
       }
 
-  pub passes : Passes (record { arrived = f; was = was; left = left; number = n })
+  pub passes : PassesOn (record { arrived = f; was = was; left = left; number = n })
   unfolding headerFor
   passes =
       record {

@@ -12,7 +12,8 @@ use Rattle.octets.specs.Choice.{pick, placeIn}
 use Rattle.frame.specs.Frame.{statuses, errOf, nstOf, mainStart, mainOf, mainSumOf, cut}
 use Rattle.frame.specs.Rules.{refusalOf, streamRefusalOf, ficPart, streamPart}
 use Rattle.frame.specs.Answers.{headerFor}
-use Rattle.relay.specs.Relaying.{Relays}
+use Rattle.frame.specs.Writing.{frameIn}
+use Rattle.relay.specs.Relaying.{fieldsFor, Relays}
 
 -- ---- the chain
 -- what may happen on the way to a relay: the length, the status byte, the sync word and the header (FC, STC, EOH) arrive as they were sent; every other byte may be anything
@@ -28,6 +29,11 @@ pub record Relay : Type 0 where
   pub was : List ℕ
   pub left : List ℕ
   pub number : ℕ
+
+-- the relay at which these bytes arrive, with this output: it leaves the frame written from what it read, and answers 0
+abbrev pub relaying : List ℕ → List ℕ → Relay
+relaying arrived was =
+    record { arrived = arrived; was = was; left = frameIn (fieldsFor arrived) (mainOf arrived); number = 0 }
 
 -- it got what was sent to it, damaged or not, and relayed it into an output of 6,144 bytes that held anything
 pub record Link (sent : List ℕ) (r : Relay) : Type 0 where
@@ -90,7 +96,7 @@ pub record LevelAtEnd (first : List ℕ) (r : Relay) (rs : List Relay) (level : 
 
 -- ---- what is so of each relay of a chain
 -- it does not refuse; what it leaves is accepted, with the level that its reading handed on, a right main-stream sum, and the main stream that arrived
-pub record Passes (r : Relay) : Type 0 where
+pub record PassesOn (r : Relay) : Type 0 where
   pub number : r .number ≡ 0
   pub accepted : refusalOf (r .left) ≡ 0
   pub level : levelIn (r .left) ≡ headerFor (r .arrived) .level

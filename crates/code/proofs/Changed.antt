@@ -12,10 +12,10 @@ use lib.ListN.{length, getD, set, drop, replicate, length-append, length-set}
 use lib.Pow.{pow-pos}
 use Rattle.octets.specs.Choice.{pick}
 use Rattle.field.specs.Field.{times}
-use Rattle.field.proofs.Ring.{times-lt}
-use Rattle.code.specs.Code.{_⊞_, isClean, lower, divide, remainder, checkBytes}
+use Rattle.field.proofs.FieldLaws.{times-lt}
+use Rattle.code.specs.Code.{_⊞_, isClean, lower, divide, remainder, checkBytes, Octets, Zeros, differences}
 use Rattle.code.proofs.CleanRows.{clean-sum, checked-clean, check-length, length-sum}
-use Rattle.code.proofs.Distance.{Octets, Zeros, weight, xor-same, distance}
+use Rattle.code.proofs.Distance.{xor-same, distance}
 
 sum-octets : (xs ys : List ℕ) → Octets xs → Octets ys → Octets (xs ⊞ ys)
 sum-octets [] ys o p = tt
@@ -28,31 +28,27 @@ same [] (y ∷ ys) e z = absurd (omega arith)
 same (x ∷ xs) [] e z = absurd (omega arith)
 same (x ∷ xs) (y ∷ ys) e z = ap₂ _∷_ (xor-same x y (z .0)) (same xs ys (omega arith) (z .1))
 
--- how many bytes two rows differ in
-abbrev pub differ : List ℕ → List ℕ → ℕ
-differ xs ys = weight (xs ⊞ ys)
-
--- two clean rows that differ in at most r bytes are one
-pub clean-same : (r : ℕ) (xs ys : List ℕ) → length xs ≡ length ys → length ys ≤ 255 → Octets xs → Octets ys → differ xs ys ≤ r → isClean r xs ≡ true → isClean r ys ≡ true → xs ≡ ys
+-- two clean rows that differences in at most r bytes are one
+pub clean-same : (r : ℕ) (xs ys : List ℕ) → length xs ≡ length ys → length ys ≤ 255 → Octets xs → Octets ys → differences xs ys ≤ r → isClean r xs ≡ true → isClean r ys ≡ true → xs ≡ ys
 clean-same r xs ys e b o p w c d =
     same xs ys e (distance r (xs ⊞ ys) (rw (length-sum xs ys e) b) (sum-octets xs ys o p) w (clean-sum r xs ys e c d))
 
-differ-self : (xs : List ℕ) → differ xs xs ≡ 0
+differ-self : (xs : List ℕ) → differences xs xs ≡ 0
 differ-self [] = refl
 differ-self (x ∷ xs) = rw (xor-self x) (differ-self xs)
 
 -- any number of bytes from 1 to r changed
-pub changed : (r : ℕ) (xs ys : List ℕ) → length xs ≡ length ys → length ys ≤ 255 → Octets xs → Octets ys → 0 < differ xs ys → differ xs ys ≤ r → isClean r xs ≡ true → isClean r ys ≡ false
+pub changed : (r : ℕ) (xs ys : List ℕ) → length xs ≡ length ys → length ys ≤ 255 → Octets xs → Octets ys → 0 < differences xs ys → differences xs ys ≤ r → isClean r xs ≡ true → isClean r ys ≡ false
 changed r xs ys e b o p h w c = go (isClean r ys) refl
   where
     go : (k : Bool) → isClean r ys ≡ k → k ≡ false
     go false d = refl
     go true d =
         absurd (let q = clean-same r xs ys e b o p w c d in
-        let z : differ xs ys ≡ 0 = rw q (differ-self ys) in
+        let z : differences xs ys ≡ 0 = rw q (differ-self ys) in
         omega arith)
 
-differ-set : (xs : List ℕ) (k v : ℕ) → k < length xs → (getD xs k 0 ≡ v → ⊥) → differ xs (set xs k v) ≡ 1
+differ-set : (xs : List ℕ) (k v : ℕ) → k < length xs → (getD xs k 0 ≡ v → ⊥) → differences xs (set xs k v) ≡ 1
 differ-set [] k v h f = absurd (omega arith)
 differ-set (x ∷ xs) zero v h f = rw (ne-eqb (bitXor x v) 0 (λ e. f (xor-same x v e)), differ-self xs)
 differ-set (x ∷ xs) (suc k) v h f = rw (xor-self x) (differ-set xs k v (omega arith) f)
@@ -74,17 +70,17 @@ append-octets : (xs ys : List ℕ) → Octets xs → Octets ys → Octets (xs ++
 append-octets [] ys o p = p
 append-octets (x ∷ xs) ys o p = (o .0, append-octets xs ys (o .1) p)
 
-differ-le : (xs ys : List ℕ) → length xs ≡ length ys → differ xs ys ≤ length xs
+differ-le : (xs ys : List ℕ) → length xs ≡ length ys → differences xs ys ≤ length xs
 differ-le [] [] e = omega arith
 differ-le [] (y ∷ ys) e = absurd (omega arith)
 differ-le (x ∷ xs) [] e = absurd (omega arith)
 differ-le (x ∷ xs) (y ∷ ys) e = go (eqb (bitXor x y) 0) (differ-le xs ys (omega arith))
   where
-    go : (b : Bool) → differ xs ys ≤ length xs → pick b (differ xs ys) (suc (differ xs ys)) ≤ suc (length xs)
+    go : (b : Bool) → differences xs ys ≤ length xs → pick b (differences xs ys) (suc (differences xs ys)) ≤ suc (length xs)
     go true h = omega arith
     go false h = omega arith
 
-differ-behind : (info c d : List ℕ) → differ (info ++ c) (info ++ d) ≡ differ c d
+differ-behind : (info c d : List ℕ) → differences (info ++ c) (info ++ d) ≡ differences c d
 differ-behind [] c d = refl
 differ-behind (x ∷ info) c d = rw (xor-self x) (differ-behind info c d)
 

@@ -15,7 +15,7 @@ use borrow.Author.Tests.{eqb-true, eq-eqb}
 use Rattle.linear.proofs.Linear.{Linear, itself, then}
 use Rattle.linear.proofs.Xor.{xor-assoc, xor-cross}
 use Rattle.field.specs.Field.{times, power}
-use Rattle.field.proofs.Ring.{linear-l, linear-r, at-zero, times-assoc, times-comm, times-one, times-lt, times-power, low-left}
+use Rattle.field.proofs.FieldLaws.{linear-l, linear-r, at-zero, times-assoc, times-comm, times-one, times-lt, times-power, low-left}
 use Rattle.code.specs.Code.{_⊞_, horner, valueAt, root, isClean, generator, lower, divide, remainder, checkBytes}
 
 -- ---- the linear law

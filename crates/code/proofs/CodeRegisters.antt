@@ -15,7 +15,7 @@ use Rattle.octets.proofs.Storing.{put-chain, put-all}
 use Rattle.linear.proofs.Linear.{Linear, right, low, then, xor, agree-below}
 use Rattle.linear.proofs.Row.{row, same}
 use Rattle.field.specs.Field.{bit, scale, times}
-use Rattle.field.proofs.Ring.{linear-l, bit-linear}
+use Rattle.field.proofs.FieldLaws.{linear-l, bit-linear}
 use Rattle.code.specs.Code.{_⊞_, divide}
 use Rattle.code.specs.CodeClauses.{bytes5, bytes6, five, firstSix, lastEight, fourteen}
 

@@ -14,24 +14,10 @@ use lib.ListN.{length}
 use Rattle.octets.specs.Choice.{pick}
 use Rattle.linear.proofs.Xor.{xor-assoc, xor-cross}
 use Rattle.field.specs.Field.{times, power}
-use Rattle.field.proofs.Ring.{linear-l, linear-r, at-zero, times-assoc, times-comm, times-lt, times-power, power-lt}
+use Rattle.field.proofs.FieldLaws.{linear-l, linear-r, at-zero, times-assoc, times-comm, times-lt, times-power, power-lt}
 use Rattle.field.proofs.Inverses.{no-zero, power-pos, powers-apart}
-use Rattle.code.specs.Code.{horner, valueAt, firstRoot, root, isClean}
+use Rattle.code.specs.Code.{horner, valueAt, firstRoot, root, isClean, Octets, Zeros, weight}
 use Rattle.code.proofs.CleanRows.{horner-start, lift-power, clean-at}
-
--- each byte is one
-abbrev pub Octets : List ℕ → Type 0
-Octets [] = Unit {0}
-Octets (x ∷ xs) = (x < 2 ^ 8) × Octets xs
-
-abbrev pub Zeros : List ℕ → Type 0
-Zeros [] = Unit {0}
-Zeros (x ∷ xs) = (x ≡ 0) × Zeros xs
-
--- how many bytes are not zero
-abbrev pub weight : List ℕ → ℕ
-weight [] = 0
-weight (x ∷ xs) = pick (eqb x 0) (weight xs) (suc (weight xs))
 
 -- ---- the row's value at alpha^k, as a sum over its bytes
 sumAt : ℕ → List ℕ → ℕ

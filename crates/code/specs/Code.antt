@@ -3,10 +3,12 @@
 -- Assumes nothing.
 use mathlib.Core.Bool.{Bool, true, _&&_}
 use mathlib.Core.List.{List, [], _∷_, _++_, map}
-use Prim.Native.Nat.{ℕ, zero, suc, _+_}
+use mathlib.Core.Path.{_≡_}
+use Prim.Native.Nat.{ℕ, zero, suc, _+_, _^_, _<_}
 use lib.Bits.{bitXor}
 use lib.Dec.{eqb}
 use lib.ListN.{getD, drop, replicate}
+use Rattle.octets.specs.Choice.{pick}
 use Rattle.field.specs.Field.{times, power}
 
 infixl 40 _⊞_
@@ -57,3 +59,22 @@ remainder g rest (b ∷ bs) = remainder g (divide g rest b) bs
 -- the check bytes: the remainder of the information times x^R by the generator
 unfoldable pub checkBytes : ℕ → List ℕ → List ℕ
 checkBytes r info = remainder (lower r) (replicate r 0) info
+
+-- ---- rows held against each other
+-- each byte is below 256; each byte is zero
+abbrev pub Octets : List ℕ → Type 0
+Octets [] = Unit {0}
+Octets (x ∷ xs) = (x < 2 ^ 8) × Octets xs
+
+abbrev pub Zeros : List ℕ → Type 0
+Zeros [] = Unit {0}
+Zeros (x ∷ xs) = (x ≡ 0) × Zeros xs
+
+-- how many bytes are not zero
+abbrev pub weight : List ℕ → ℕ
+weight [] = 0
+weight (x ∷ xs) = pick (eqb x 0) (weight xs) (suc (weight xs))
+
+-- how many bytes two rows differ in
+abbrev pub differences : List ℕ → List ℕ → ℕ
+differences xs ys = weight (xs ⊞ ys)

@@ -8,7 +8,7 @@ use Rattle.frame.specs.Frame.{nstOf}
 use Rattle.places.specs.Places.{sameScid, unsized, beyond, meets, profileOf}
 use Rattle.collision.specs.declared.Two.{Two}
 use Rattle.collision.specs.declared.Collision.{Collision}
-use Rattle.collision.specs.Collisions.{oneTo, pairTo, aloneTo, twoBy, twoOf, Finds}
+use Rattle.collision.specs.Collisions.{oneTo, pairTo, aloneTo, twoBy, twoOf, FindsStreams}
 
 module _ (number : ℕ) (f : List ℕ) (n : ℕ) where
   module _ (v : Two) where
@@ -33,5 +33,5 @@ module _ (number : ℕ) (f : List ℕ) (n : ℕ) where
   unfolding twoBy
   by-other a b c d = rw (ne-eqb number 30 a, ne-eqb number 31 b, ne-eqb number 32 c, ne-eqb number 33 d)
 
-pub finds : (f : List ℕ) (number n : ℕ) (two : Two) → number ≡ profileOf f → n ≡ nstOf f → two ≡ twoBy number f n → Finds f (record { number = number; two = two })
+pub finds : (f : List ℕ) (number n : ℕ) (two : Two) → number ≡ profileOf f → n ≡ nstOf f → two ≡ twoBy number f n → FindsStreams f (record { number = number; two = two })
 finds f number n two a b t = record { number = a; two = t ∙ (rw (a, b)) }

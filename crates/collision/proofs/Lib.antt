@@ -1,3 +1,3 @@
 pub mod ByNumber
 pub mod Named
-pub mod Seeking
+pub mod FirstFound

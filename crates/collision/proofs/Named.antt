@@ -20,7 +20,7 @@ use Rattle.places.proofs.Meaning.{some-found, pair-found, clash}
 use Rattle.places.proofs.PlaceList.{places-length, places-at}
 use Rattle.collision.specs.declared.Two.{Two}
 use Rattle.collision.specs.Collisions.{seek, seekTo, oneTo, laterTo, earlierTo, pairTo, twoBy, twoOf, placeAt, FirstOne, FirstTwo}
-use Rattle.collision.proofs.Seeking.{ofOne, ofTwo, hasLater}
+use Rattle.collision.proofs.FirstFound.{ofOne, ofTwo, hasLater}
 
 -- ---- rules whose numbers are all below m are passed over
 abbrev Below : ℕ → List Rule → Type 0

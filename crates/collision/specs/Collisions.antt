@@ -54,7 +54,7 @@ twoBy number f n =
 abbrev pub twoOf : List ℕ → Two
 twoOf f = twoBy (profileOf f) f (nstOf f)
 
-pub record Finds (f : List ℕ) (r : Collision) : Type 0 where
+pub record FindsStreams (f : List ℕ) (r : Collision) : Type 0 where
   pub number : r .number ≡ profileOf f
   pub two : r .two ≡ twoOf f
 

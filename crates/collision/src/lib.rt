@@ -2,7 +2,7 @@
 ghost use mathlib.Core.Path.{_≡_};
 ghost use Prim.Native.Nat.{_<_};
 ghost use Rattle.places.specs.Places.{sameScid, unsized, beyond, meets};
-ghost use Rattle.collision.specs.Collisions.{oneTo, laterTo, pairTo, twoBy, Finds};
+ghost use Rattle.collision.specs.Collisions.{oneTo, laterTo, pairTo, twoBy, FindsStreams};
 
 // Two streams of the table, or one twice.
 pub struct Two {
@@ -145,7 +145,7 @@ fn two_by(frame: &[u8], number: u8, n: u8) -> Two
 
 // The number of the bytes lent, and the streams that it is about.
 pub fn find(frame: &[u8]) -> Collision
-    ensures { λ r. ⌜ Finds (now (frame .entry)) r ⌝ }
+    ensures { λ r. ⌜ FindsStreams (now (frame .entry)) r ⌝ }
 {
     let number = profile::judge(frame);
     let fc = fields::fc(frame);

@@ -19,8 +19,7 @@ use Rattle.frame.proofs.Accepting.{acceptable}
 use Rattle.items.specs.TagItems.{Item, partOf, isBad, someBad, valuesOf, numberBy, highestIn}
 use Rattle.items.proofs.ItemList.{bad-append, values-append, highest-append}
 use Rattle.edi.specs.Regenerating.{Regenerates}
-use Rattle.feeds.specs.Packed.{itemsBytes, Whole, Free, itemsFor, Other, Taken, Mixed}
-use Rattle.feeds.proofs.ItemsBack.{AllWhole}
+use Rattle.feeds.specs.Packed.{itemsBytes, Whole, Free, itemsFor, Other, Taken, Mixed, AllWhole}
 use Rattle.feeds.proofs.OwnItems.{carry, items-whole}
 use Rattle.feeds.proofs.SameFrame.{Carries, carried-back}
 

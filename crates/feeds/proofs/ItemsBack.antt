@@ -10,11 +10,7 @@ use Rattle.octets.specs.Words.{bytes4, wordAt}
 use Rattle.octets.proofs.SplitJoin.{join-split}
 use Rattle.items.specs.TagItems.{Item, itemIn, itemsOf}
 use Rattle.items.proofs.ItemList.{items-none, items-more}
-use Rattle.feeds.specs.Packed.{itemBytes, itemsBytes, Whole}
-
-abbrev pub AllWhole : List Item → Type 0
-AllWhole [] = Unit {0}
-AllWhole (i ∷ is) = Whole i × AllWhole is
+use Rattle.feeds.specs.Packed.{itemBytes, itemsBytes, Whole, AllWhole}
 
 module _ (i : Item) (w : Whole i) (l : List ℕ) where
   abbrev q : List ℕ

@@ -15,8 +15,7 @@ use Rattle.frame.specs.Answers.{digit}
 use Rattle.items.specs.TagItems.{Item, partOf, isStream, isBad, someBad, valuesOf, numberBy, highestIn}
 use Rattle.items.proofs.ItemList.{bad-append, values-append, highest-append}
 use Rattle.tags.proofs.TagLaws.{ficl-small}
-use Rattle.feeds.specs.Packed.{Whole, Free, managementOf, streamItemOf, itemOf, streamItemsTo, itemsFor}
-use Rattle.feeds.proofs.ItemsBack.{AllWhole}
+use Rattle.feeds.specs.Packed.{Whole, Free, managementOf, streamItemOf, itemOf, streamItemsTo, itemsFor, AllWhole}
 use Rattle.feeds.proofs.SameFrame.{Carries}
 use Rattle.feeds.proofs.ValuesBack.{item-length, stl-lt, management-length}
 

@@ -29,8 +29,8 @@ use Rattle.sorting.specs.TagRules.{isManaged, itemRulesOf}
 use Rattle.edi.specs.Regenerating.{entriesTo, dataTo, fieldsFor, mainFor, regeneratingRefusalOf, Regenerates}
 use Rattle.edi.proofs.RegeneratingRules.{fields-entries}
 use Rattle.feeds.specs.FromItems.{valuesFor}
-use Rattle.feeds.specs.Packed.{itemsBytes, Free, managementOf, streamItemOf}
-use Rattle.feeds.proofs.ItemsBack.{AllWhole, items-back}
+use Rattle.feeds.specs.Packed.{itemsBytes, Free, managementOf, streamItemOf, AllWhole}
+use Rattle.feeds.proofs.ItemsBack.{items-back}
 use Rattle.feeds.proofs.Regenerated.{values-for}
 use Rattle.feeds.proofs.ValuesBack.{ficf-back, fct-back, stat-back, mid-back, fp-back, mnsc-back, fic-back, length-back, time-back, rfu-back, rfa-back, entry-back, data-back}
 

@@ -27,6 +27,10 @@ pub record Whole (i : Item) : Type 0 where
   pub bits : i .bits ≡ length (i .value) * 8
   pub size : i .bits < 2 ^ 32
 
+abbrev pub AllWhole : List Item → Type 0
+AllWhole [] = Unit {0}
+AllWhole (i ∷ is) = Whole i × AllWhole is
+
 abbrev pub itemOf : ℕ → List ℕ → Item
 itemOf name v = record { name = name; bits = length v * 8; value = v }
 

@@ -2,7 +2,7 @@
 -- the 255th are apart, and the 255th is the first again.
 -- Assumes nothing.
 use mathlib.Core.Path.{_≡_, refl, sym, ap, subst, _∙_}
-use mathlib.Core.Bool.{Bool, true, not}
+use mathlib.Core.Bool.{Bool, true, not, _&&_}
 use mathlib.Core.List.{List, [], _∷_}
 use Prim.Native.Nat.{ℕ, zero, suc, _+_, _-_, _*_, _/_, _%_, _^_, _<_}
 use native.Mathlib.Nat.{add-zero, div-add-mod', le-of-suc-le-suc, mod-lt, not-suc-le-zero}
@@ -11,9 +11,9 @@ use lib.Dec.{T, eqb, eqb→eq, lit<}
 use lib.ListN.{length, getD}
 use Rattle.sum.specs.Sum.{bit}
 use Rattle.field.specs.FieldClauses.{entryOf}
-use Rattle.field.specs.Field.{twice, timesTo, times, power}
-use Rattle.field.proofs.Ring.{linear-l, linear-r, at-zero, times-assoc, times-comm, times-one, times-power, power-lt}
-use Rattle.field.proofs.Powers.{both, both-left, both-right, arePowers, powers-at}
+use Rattle.field.specs.Field.{twice, timesTo, times, power, arePowers}
+use Rattle.field.proofs.FieldLaws.{linear-l, linear-r, at-zero, times-assoc, times-comm, times-one, times-power, power-lt}
+use Rattle.field.proofs.Powers.{both-left, both-right, powers-at}
 
 -- the inverses of 1, 2, 3, ..
 inverses : List ℕ
@@ -22,7 +22,7 @@ inverses = 1 ∷ 195 ∷ 130 ∷ 162 ∷ 126 ∷ 65 ∷ 90 ∷ 81 ∷ 54 ∷ 63 
 -- each entry, times its number from a on, is 1
 abbrev areInverses : ℕ → List ℕ → Bool
 areInverses a [] = true
-areInverses a (b ∷ bs) = both (eqb (times a b) 1) (areInverses (suc a) bs)
+areInverses a (b ∷ bs) = eqb (times a b) 1 && areInverses (suc a) bs
 
 inverse-at : (a : ℕ) (bs : List ℕ) → T (areInverses a bs) → (k : ℕ) → k < length bs → times (a + k) (getD bs k 0) ≡ 1
 inverse-at a [] t k h = absurd (not-suc-le-zero h)
@@ -95,7 +95,7 @@ power-pos n = go (power n) refl
 -- ---- the powers below the 255th are apart
 abbrev noneOne : ℕ → ℕ → Bool
 noneOne x zero = true
-noneOne x (suc n) = both (not (eqb x 1)) (noneOne (twice x) n)
+noneOne x (suc n) = not (eqb x 1) && noneOne (twice x) n
 
 none-one : (m n : ℕ) → T (noneOne (power m) n) → (k : ℕ) → k < n → power (m + k) ≡ 1 → ⊥
 unfolding power

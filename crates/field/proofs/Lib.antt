@@ -1,4 +1,4 @@
 pub mod Powers
-pub mod Ring
+pub mod FieldLaws
 pub mod FieldTurns
 pub mod Inverses

@@ -1,35 +1,22 @@
--- A table of powers: one test over the whole table that each entry is the previous times x, and what it gives at each entry.
+-- A table of powers: what the one test over the whole table gives at each entry.
 -- Assumes nothing.
 use mathlib.Core.Path.{_≡_, sym, ap, subst, _∙_}
-use mathlib.Core.Bool.{Bool, true, false}
+use mathlib.Core.Bool.{Bool, true, false, _&&_}
 use mathlib.Core.List.{List, [], _∷_}
 use Prim.Native.Nat.{ℕ, zero, suc, _+_, _<_}
 use native.Mathlib.Nat.{add-zero, add-suc, suc-add, le-of-suc-le-suc, not-suc-le-zero}
 use native.Mathlib.Omega.{arith}
 use lib.Dec.{T, eqb, eqb→eq}
 use lib.ListN.{length, getD}
-use Rattle.field.specs.Field.{twice, power}
+use Rattle.field.specs.Field.{twice, power, follows, arePowers}
 
-abbrev pub both : Bool → Bool → Bool
-both true b = b
-both false b = false
-
-pub both-left : (a b : Bool) → T (both a b) → T a
+pub both-left : (a b : Bool) → T (a && b) → T a
 both-left true b t = tt
 both-left false b t = t
 
-pub both-right : (a b : Bool) → T (both a b) → T b
+pub both-right : (a b : Bool) → T (a && b) → T b
 both-right true b t = t
 both-right false b t = absurd t
-
--- each entry is the previous times x
-abbrev pub follows : ℕ → List ℕ → Bool
-follows x [] = true
-follows x (y ∷ ys) = both (eqb y (twice x)) (follows y ys)
-
-abbrev pub arePowers : List ℕ → Bool
-arePowers [] = true
-arePowers (y ∷ ys) = both (eqb y 1) (follows y ys)
 
 from : (m : ℕ) (ys : List ℕ) → T (follows (power m) ys) → (k : ℕ) → k < length ys → getD ys k 0 ≡ power (suc m + k)
 unfolding power

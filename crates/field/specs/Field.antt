@@ -1,9 +1,11 @@
 -- Clause 8.6 of ETS 300 799: the field of 256 elements from P(x) = x^8 + x^7 + x^2 + x + 1. A byte is a polynomial below x^8, its bit of weight 2^k
 -- the coefficient of x^k; sums are exclusive or; products are taken modulo P. Alpha, which the clause leaves open, is x, the byte 02.
 -- Assumes nothing.
-use mathlib.Core.Bool.{Bool, true, false}
+use mathlib.Core.Bool.{Bool, true, false, _&&_}
+use mathlib.Core.List.{List, [], _∷_}
 use Prim.Native.Nat.{ℕ, zero, suc, _*_, _/_, _%_, _^_}
 use lib.Bits.{bitXor}
+use lib.Dec.{eqb}
 pub use Rattle.sum.specs.Sum.{bit}
 
 -- a coefficient times a
@@ -31,3 +33,12 @@ times a b = timesTo 8 a b
 unfoldable pub power : ℕ → ℕ
 power zero = 1
 power (suc n) = twice (power n)
+
+-- a table of powers, by one test over the whole of it: the first entry is 1, and each other one the previous times alpha
+abbrev pub follows : ℕ → List ℕ → Bool
+follows x [] = true
+follows x (y ∷ ys) = eqb y (twice x) && follows y ys
+
+abbrev pub arePowers : List ℕ → Bool
+arePowers [] = true
+arePowers (y ∷ ys) = eqb y 1 && follows y ys

@@ -1,1 +1,1 @@
-pub mod Beyond
+pub mod BeyondBytes

@@ -9,10 +9,10 @@ use lib.ListN.{drop}
 use borrow.Author.Tests.{eq-eqb, ne-eqb, le-ltb, le-leb, lt-leb, eqb-true, eqb-false, ltb-false, leb-false, not-false}
 use Rattle.octets.proofs.Deciding.{equal}
 use Rattle.frame.specs.Frame.{errOf, fsyncOf, nstOf}
-use Rattle.frame.specs.Rules.{_when_, first, rulesOf, refusalOf, Acceptable, NullTransmission, streamRefusalOf}
+use Rattle.frame.specs.Rules.{_when_, first, rulesOf, refusalOf, Acceptable, NullTransmission, streamRefusalOf, NoneHold}
 use Rattle.frame.proofs.Places.{fsync-one, fsync-placed, status-one, status-placed}
 use Rattle.frame.proofs.Streams.{each-within, none-above}
-use Rattle.frame.proofs.FirstRule.{NoneHold, none-hold, none-first, first-zero, first-found, passed-over, holds-there}
+use Rattle.frame.proofs.FirstRule.{none-hold, none-first, first-zero, first-found, passed-over, holds-there}
 
 pub nothing : (f : List ℕ) → refusalOf f ≡ 0 → NoneHold (rulesOf f)
 unfolding refusalOf

@@ -2,38 +2,22 @@
 -- Assumes nothing.
 use mathlib.Core.Bool.{Bool, true, false}
 use mathlib.Core.List.{List, [], _∷_, _++_}
-use mathlib.Core.Logic.{_⊎_, inl, inr}
+use mathlib.Core.Logic.{inl, inr}
 use mathlib.Core.Path.{_≡_, refl, ap}
 use Prim.Native.Nat.{ℕ, _<_}
 use native.Mathlib.Omega.{arith}
 use lib.Dec.{T, ltb, ltb→lt}
 use Rattle.octets.specs.Choice.{pick}
-use Rattle.frame.specs.Rules.{Rule, _when_, first}
-
--- no rule holds
-abbrev pub NoneHold : List Rule → Type 0
-NoneHold [] = Unit {0}
-NoneHold ((n when b) ∷ rs) = (b ≡ false) × NoneHold rs
+use Rattle.frame.specs.Rules.{Rule, _when_, first, NoneHold, Settled}
 
 -- every number is above m; above 0, 0 says that no rule holds
 abbrev pub Above : ℕ → List Rule → Type 0
 Above m [] = Unit {0}
 Above m ((n when b) ∷ rs) = T (ltb m n) × Above m rs
 
--- rule n holds, and no earlier one
-pub record FirstToHold (rs : List Rule) (n : ℕ) : Type 0 where
-  pub earlier : List Rule
-  pub later : List Rule
-  pub stands : rs ≡ earlier ++ ((n when true) ∷ later)
-  pub none : NoneHold earlier
-
 pub given : (earlier : List Rule) (n : ℕ) (later : List Rule) → NoneHold earlier → first (earlier ++ ((n when true) ∷ later)) ≡ n
 given [] n later h = refl
 given ((m when b) ∷ earlier) n later h = rw (h .0) (given earlier n later (h .1))
-
--- 0 and no rule holds, or the number of the first that does
-abbrev pub Settled : List Rule → Type 0
-Settled rs = ((first rs ≡ 0) × NoneHold rs) ⊎ FirstToHold rs (first rs)
 
 goes-on : (n : ℕ) (rs : List Rule) → Settled rs → Settled ((n when false) ∷ rs)
 goes-on n rs (inl h) = inl (h .0, (refl, h .1))

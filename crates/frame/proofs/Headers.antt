@@ -2,9 +2,9 @@
 -- Assumes nothing.
 use mathlib.Core.Bool.{Bool, true, false}
 use mathlib.Core.List.{List, [], _∷_, _++_}
-use mathlib.Core.Logic.{_⊎_, inl, inr}
+use mathlib.Core.Logic.{inl, inr}
 use mathlib.Core.Path.{_≡_, refl, sym, ap}
-use Prim.Native.Nat.{ℕ, zero, suc, _+_, _*_, _^_, _<_, _≤_, max}
+use Prim.Native.Nat.{ℕ, zero, suc, _+_, _*_, _^_, _<_, max}
 use native.Mathlib.Omega.{arith}
 use lib.Dec.{eqb}
 use borrow.Author.Tests.{eq-eqb, eqb-true}
@@ -14,7 +14,7 @@ use Rattle.sum.specs.Sum.{sumOf}
 use Rattle.octets.proofs.SplitJoin.{split-fit}
 use Rattle.frame.specs.Frame.{statuses, errOf, fsyncs, fsyncOf, fcWidths, ficfOf, flOf, mainOf, mainSumOf, tistWidths, timeOf, levelBy, levelOf}
 use Rattle.frame.specs.Rules.{Acceptable}
-use Rattle.frame.specs.Answers.{digit, returningValues, headerValues, returningOf, fieldsOf, headerFor}
+use Rattle.frame.specs.Answers.{digit, returningValues, headerValues, returningOf, fieldsOf, headerFor, LevelKept, Unraised}
 use Rattle.frame.proofs.Places.{fsync-placed}
 
 pub digit-of : (n : ℕ) → n < 2 → digit (eqb n 1) ≡ n
@@ -41,13 +41,7 @@ unfolding headerFor fieldsOf
 header-values f a = ap (λ (vs : List ℕ). vs ++ (mainSumOf f ∷ sumOf (mainOf f) ∷ [])) (returning-values f a)
 
 -- THE LEVEL AND THE TWO SUMS: the level handed on is the level read exactly when the sums are equal or the level read is 2 or 3
-abbrev pub Kept : List ℕ → Type 0
-Kept f = headerFor f .level ≡ placeIn statuses (errOf f)
-
-abbrev pub Unraised : List ℕ → Type 0
-Unraised f = (headerFor f .sent ≡ headerFor f .worked) ⊎ (2 ≤ placeIn statuses (errOf f))
-
-pub level-kept : (f : List ℕ) → Unraised f → Kept f
+pub level-kept : (f : List ℕ) → Unraised f → LevelKept f
 unfolding headerFor levelOf levelBy
 level-kept f (inl e) = rw (eq-eqb (sumOf (mainOf f)) (mainSumOf f) (sym e))
 level-kept f (inr h) = go (eqb (sumOf (mainOf f)) (mainSumOf f))
@@ -56,7 +50,7 @@ level-kept f (inr h) = go (eqb (sumOf (mainOf f)) (mainSumOf f))
     go true = refl
     go false = omega arith
 
-pub kept-only : (f : List ℕ) → Kept f → Unraised f
+pub kept-only : (f : List ℕ) → LevelKept f → Unraised f
 unfolding headerFor levelOf levelBy
 kept-only f = go (eqb (sumOf (mainOf f)) (mainSumOf f)) refl
   where

@@ -1,8 +1,9 @@
 -- What reading answers, as the paper's numbers and values.
 -- Assumes nothing.
 use mathlib.Core.List.{List, [], _∷_, _++_}
+use mathlib.Core.Logic.{_⊎_}
 use mathlib.Core.Path.{_≡_}
-use Prim.Native.Nat.{ℕ, _+_, _-_}
+use Prim.Native.Nat.{ℕ, _+_, _-_, _≤_}
 use lib.Dec.{eqb, ltb}
 use lib.ListN.{length, replicate}
 use denote.Ref.{RefT, now}
@@ -17,7 +18,7 @@ use Rattle.frame.specs.declared.Stream.{Stream}
 use Rattle.frame.specs.declared.Timestamp.{Timestamp}
 use Rattle.frame.specs.declared.Timestamp.the-variants.{Absent, Time, Reserved}
 use Rattle.octets.specs.Choice.{pick, placeIn}
-use Rattle.frame.specs.Frame.{fsyncs, fsyncOf, fctOf, ficfOf, nstOf, fpOf, midOf, flOf, streamsOf, cut, mnscOf, mainOf, mainSumOf, rfuOf, rfaOf, timeOf, levelOf}
+use Rattle.frame.specs.Frame.{statuses, errOf, fsyncs, fsyncOf, fctOf, ficfOf, nstOf, fpOf, midOf, flOf, streamsOf, cut, mnscOf, mainOf, mainSumOf, rfuOf, rfaOf, timeOf, levelOf}
 use Rattle.frame.specs.Rules.{refusalOf}
 
 -- annex C.2: a timestamp's sort, 0 where none is given, 1 for a time and 2 for a reserved number, and its number, FFFFFF where none is given
@@ -99,6 +100,14 @@ headerFor f =
       sent = mainSumOf f;
       worked = sumOf (mainOf f);
     }
+
+-- the level handed on is the level read
+abbrev pub LevelKept : List ℕ → Type 0
+LevelKept f = headerFor f .level ≡ placeIn statuses (errOf f)
+
+-- the two sums are equal, or the level read is 2 or 3
+abbrev pub Unraised : List ℕ → Type 0
+Unraised f = (headerFor f .sent ≡ headerFor f .worked) ⊎ (2 ≤ placeIn statuses (errOf f))
 
 abbrev pub noStream : Stream
 noStream = record { scid = 0; sad = 0; tpl = 0; stl = 0 }

@@ -1,6 +1,6 @@
 -- When a frame is refused, and with which number.
 -- Assumes nothing.
-use mathlib.Core.Bool.{Bool, false, not, _||_}
+use mathlib.Core.Bool.{Bool, true, false, not, _||_}
 use mathlib.Core.List.{List, [], _∷_, _++_}
 use mathlib.Core.Logic.{_⊎_}
 use mathlib.Core.Path.{_≡_}
@@ -23,6 +23,22 @@ pub data Rule : Type 0 where
 abbrev pub first : List Rule → ℕ
 first [] = 0
 first ((n when b) ∷ rs) = pick b n (first rs)
+
+-- no rule holds
+abbrev pub NoneHold : List Rule → Type 0
+NoneHold [] = Unit {0}
+NoneHold ((n when b) ∷ rs) = (b ≡ false) × NoneHold rs
+
+-- rule n holds, and no earlier one
+pub record FirstToHold (rs : List Rule) (n : ℕ) : Type 0 where
+  pub earlier : List Rule
+  pub later : List Rule
+  pub stands : rs ≡ earlier ++ ((n when true) ∷ later)
+  pub none : NoneHold earlier
+
+-- 0 and no rule holds, or the number of the first that does
+abbrev pub Settled : List Rule → Type 0
+Settled rs = ((first rs ≡ 0) × NoneHold rs) ⊎ FirstToHold rs (first rs)
 
 unfoldable pub someStlAbove : ℕ → List Stream → Bool
 someStlAbove m [] = false

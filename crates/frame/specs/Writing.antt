@@ -3,7 +3,7 @@
 use mathlib.Core.Bool.{Bool, false, not, _||_}
 use mathlib.Core.List.{List, [], _∷_, _++_}
 use mathlib.Core.Path.{_≡_}
-use Prim.Native.Nat.{ℕ, _+_, _-_, _*_, _^_, _<_}
+use Prim.Native.Nat.{ℕ, _+_, _-_, _*_, _^_, _<_, _≤_}
 use lib.Dec.{eqb, ltb, leb}
 use lib.ListN.{length, getD, take, drop, replicate}
 use Rattle.sum.specs.Sum.{sumOf}
@@ -11,12 +11,12 @@ use Rattle.frame.specs.declared.Fields.{Fields}
 use Rattle.frame.specs.declared.Stream.{Stream}
 use Rattle.frame.specs.declared.Timestamp.{Timestamp}
 use Rattle.frame.specs.declared.Timestamp.the-variants.{Absent, Time, Reserved}
-use Rattle.octets.specs.Words.{split, join, bytes2, bytes4}
+use Rattle.octets.specs.Words.{split, join, Fit, bytes2, bytes4}
 use Rattle.octets.specs.Choice.{pick}
 use Rattle.octets.specs.Stores.{bytesOfEach}
-use Rattle.frame.specs.Frame.{syncWidths, statusBy, fsyncBy, fcWidths, flOf, ficlBy, sstcWidths, stlTotal, flBy, mainOf, mainSumOf, tistWidths, carriedBy}
-use Rattle.frame.specs.Rules.{Rule, _when_, first, someStlAbove}
-use Rattle.frame.specs.Answers.{digit, timeBy, timestampValues}
+use Rattle.frame.specs.Frame.{syncWidths, statusBy, fsyncBy, fcWidths, flOf, ficlBy, sstcWidths, streamsOf, stlTotal, flBy, mainOf, mainSumOf, tistWidths, carriedBy}
+use Rattle.frame.specs.Rules.{Rule, _when_, first, someStlAbove, refusalOf}
+use Rattle.frame.specs.Answers.{digit, timeBy, timestampValues, returningOf}
 
 -- the entries that have effect: those below the count, of all 64
 abbrev pub entriesOf : Fields → List Stream
@@ -53,11 +53,17 @@ unfoldable pub someStreamWider : List Stream → Bool
 someStreamWider [] = false
 someStreamWider (s ∷ ss) = someWider sstcWidths (streamValues s) || someStreamWider ss
 
--- a level is 0 to 3; FCT, FP, MID, MNSC, Rfu, Rfa
+-- the widths of FCT, FP, MID, MNSC, Rfu, Rfa, and these values
+abbrev pub plainWidths : List ℕ
+plainWidths = 8 ∷ 3 ∷ 2 ∷ 16 ∷ 16 ∷ 8 ∷ []
+
+abbrev pub plainIn : Fields → List ℕ
+plainIn x = x .fct ∷ x .fp ∷ x .mid ∷ x .mnsc ∷ x .rfu ∷ x .rfa ∷ []
+
+-- a level is 0 to 3
 unfoldable pub wider : Fields → Bool
 wider x =
-    (ltb 3 (x .level) || someWider (8 ∷ 3 ∷ 2 ∷ 16 ∷ 16 ∷ 8 ∷ []) (x .fct ∷ x .fp ∷ x .mid ∷ x .mnsc ∷ x .rfu ∷ x .rfa ∷ []))
-    || (timeWider (x .timestamp) || someStreamWider (entriesOf x))
+    (ltb 3 (x .level) || someWider plainWidths (plainIn x)) || (timeWider (x .timestamp) || someStreamWider (entriesOf x))
 
 -- ---- writing's rules, in its order, of the fields and the lengths of main stream and output lent
 abbrev pub writingRulesOf : Fields → ℕ → ℕ → List Rule
@@ -73,6 +79,23 @@ writingRulesOf x main out =
 
 unfoldable pub writingRefusalOf : Fields → ℕ → ℕ → ℕ
 writingRefusalOf x main out = first (writingRulesOf x main out)
+
+-- each value of each entry is within its width
+abbrev pub AllFit : List Stream → Type 0
+AllFit [] = Unit {0}
+AllFit (s ∷ ss) = Fit sstcWidths (streamValues s) × AllFit ss
+
+-- fields that writing accepts, in plain words; main is the length of the main stream lent
+pub record Writable (x : Fields) (main : ℕ) : Type 0 where
+  pub level : x .level ≤ 3
+  pub plain : Fit plainWidths (plainIn x)
+  pub time : timeWider (x .timestamp) ≡ false
+  pub entries : AllFit (entriesOf x)
+  pub streams : x .count ≤ 64
+  pub counted : x .fct ≤ 249
+  pub lengths : someStlAbove 684 (entriesOf x) ≡ false
+  pub room : flIn x ≤ 1532
+  pub whole : main ≡ 4 * ficlIn x + 8 * stlTotal (entriesOf x)
 
 -- ---- the frame
 -- the entries, a word for each
@@ -124,3 +147,11 @@ Bytes f = (k : ℕ) → getD f k 0 < 256
 pub record Clean (f : List ℕ) : Type 0 where
   pub sum : sumOf (mainOf f) ≡ mainSumOf f
   pub padding : drop (carriedBy (flOf f)) f ≡ replicate (6144 - carriedBy (flOf f)) 0x55
+
+-- f, read, gives back x and m, and is clean
+pub record Returned (x : Fields) (m f : List ℕ) : Type 0 where
+  pub number : refusalOf f ≡ 0
+  pub values : returningOf f ≡ valuesIn x
+  pub streams : streamsOf f ≡ entriesOf x
+  pub main : mainOf f ≡ m
+  pub clean : Clean f

@@ -19,7 +19,7 @@ use Rattle.array.specs.PartLengths.{refusalBeside}
 use Rattle.array.proofs.Cells.{wide, placed, held}
 use Rattle.array.proofs.Filling.{Filled, filled-none, filled-run, list-at, list-length, list-same}
 use Rattle.array.proofs.Sending.{array-of-at}
-use Rattle.array.proofs.Sizes.{six}
+use Rattle.array.proofs.PartSizes.{six}
 use Rattle.homeward.specs.BackClauses.{stepped, Reaches, interleavingOf, cell, byteOf, blockOf, checkByteOf, Out, Room, HandsOut}
 use Rattle.homeward.specs.WayBack.{backRefusal, Returns}
 

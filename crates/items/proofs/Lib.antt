@@ -1,2 +1,2 @@
 pub mod ItemList
-pub mod Passing
+pub mod OnePass

@@ -13,13 +13,8 @@ use Rattle.octets.specs.Choice.{pick}
 use Rattle.frame.specs.Writing.{Bytes}
 use Rattle.frame.proofs.FirstRule.{none-hold}
 use Rattle.log.specs.declared.Entry.{Entry}
-use Rattle.log.specs.Log.{allowedEntry, entryFrom, tailFrom, goodFrom, recordsIn, entriesTo, entriesOf, badFrom, firstBad, logRulesOf, logRefusalOf, logOf}
+use Rattle.log.specs.Log.{allowedEntry, entryFrom, tailFrom, goodFrom, recordsIn, entriesTo, entriesOf, badFrom, firstBad, logRulesOf, logRefusalOf, logOf, AllAllowed}
 use Rattle.log.proofs.Returned.{write-log}
-
--- every entry is allowed
-abbrev pub AllAllowed : List Entry → Type 0
-AllAllowed [] = Unit {0}
-AllAllowed (e ∷ es) = (allowedEntry e ≡ true) × AllAllowed es
 
 pub all-snoc : (es : List Entry) (e : Entry) → AllAllowed es → allowedEntry e ≡ true → AllAllowed (es ++ (e ∷ []))
 all-snoc [] e a p = (p, tt)

@@ -11,9 +11,8 @@ use lib.ListN.{length, getD}
 use Rattle.octets.specs.Choice.{pick}
 use Rattle.octets.proofs.Storing.{each-length}
 use Rattle.log.specs.declared.Entry.{Entry}
-use Rattle.log.specs.Log.{allowedEntry, recordOf, logOf, entryFrom, tailFrom, goodFrom, recordsIn, entriesTo, entriesOf, badFrom, firstBad, logRefusalOf, entryRefusalOf}
-use Rattle.log.proofs.Accepted.{AllAllowed}
-use Rattle.log.proofs.Returned.{record-length, moved, entry-behind, Placed, read-log}
+use Rattle.log.specs.Log.{allowedEntry, recordOf, logOf, entryFrom, tailFrom, goodFrom, recordsIn, entriesTo, entriesOf, badFrom, firstBad, logRefusalOf, entryRefusalOf, AllAllowed, PlacesFit}
+use Rattle.log.proofs.Returned.{record-length, moved, entry-behind, read-log}
 
 good-first : (e : Entry) (rest : List ℕ) → goodFrom (recordOf e ++ rest) 0 ≡ allowedEntry e
 unfolding goodFrom entryFrom tailFrom recordOf
@@ -58,5 +57,5 @@ module _ (es : List Entry) where
     written-found i h =
         rw (eq-eqb (length (logOf es) % 16) 0 (omega (arith, written-length)), lt-leb (recordsIn (logOf es)) i (omega (arith, written-records)), written-good es a i h)
 
-  pub written-returns : Placed es → entriesOf (logOf es) ≡ es
+  pub written-returns : PlacesFit es → entriesOf (logOf es) ≡ es
   written-returns p = ap (entriesTo (logOf es)) written-records ∙ read-log es p

@@ -12,7 +12,7 @@ use Rattle.octets.proofs.SplitJoin.{join-split, split-join}
 use Rattle.octets.proofs.Storing.{each-append}
 use Rattle.frame.specs.Writing.{Bytes}
 use Rattle.log.specs.declared.Entry.{Entry}
-use Rattle.log.specs.Log.{recordOf, entryFrom, tailFrom, entriesTo, logOf}
+use Rattle.log.specs.Log.{recordOf, entryFrom, tailFrom, entriesTo, logOf, PlacesFit}
 
 -- ---- a record
 pub record-length : (e : Entry) → length (recordOf e) ≡ 16
@@ -80,11 +80,6 @@ write-log l b (suc n) h t =
     ∙ ap₂ (λ (x y : List ℕ). x ++ y) (write-log l b n (omega arith) (λ (i : ℕ) (k : i < n). t i (omega arith))) (write-record l b (16 * n) (omega arith) (t n (omega arith)))
     ∙ sym (ap (λ (k : ℕ). take k l) e ∙ take-add (16 * n) 16 l)
 
--- every place is within its eight bytes
-abbrev pub Placed : List Entry → Type 0
-Placed [] = Unit {0}
-Placed (e ∷ es) = (e .place < 2 ^ 64) × Placed es
-
 -- what stands behind n elements
 module _ (r l : List ℕ) (n : ℕ) (h : length r ≡ n) where
   pub behind : (k : ℕ) → getD (r ++ l) (n + k) 0 ≡ getD l k 0
@@ -105,7 +100,7 @@ entries-behind r l h (suc n) =
     let e : 16 * suc n ≡ 16 + 16 * n = omega arith in
     ap₂ (λ (x y : List Entry). x ++ y) (entries-behind r l h n) (ap (λ (y : Entry). y ∷ []) (ap (entryFrom (r ++ l)) e ∙ entry-behind r l 16 h (16 * n)))
 
-pub read-log : (es : List Entry) → Placed es → entriesTo (logOf es) (length es) ≡ es
+pub read-log : (es : List Entry) → PlacesFit es → entriesTo (logOf es) (length es) ≡ es
 unfolding entriesTo
 read-log [] p = refl
 read-log (e ∷ es) p =

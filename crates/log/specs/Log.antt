@@ -1,9 +1,9 @@
 -- The fault log of T-13: records of sixteen bytes, no header.
 -- Assumes nothing.
-use mathlib.Core.Bool.{Bool, not, _&&_}
+use mathlib.Core.Bool.{Bool, true, not, _&&_}
 use mathlib.Core.List.{List, [], _∷_, _++_}
 use mathlib.Core.Path.{_≡_}
-use Prim.Native.Nat.{ℕ, zero, suc, _+_, _*_, _/_, _%_}
+use Prim.Native.Nat.{ℕ, zero, suc, _+_, _*_, _/_, _%_, _^_, _<_}
 use lib.Dec.{eqb, ltb, leb}
 use lib.ListN.{length, getD}
 use Rattle.octets.specs.Choice.{pick}
@@ -98,3 +98,12 @@ writingRefusalOf e lent = first ((37 when not (eqb lent 16)) ∷ (29 when not (a
 pub record WritesEntry (e : Entry) (before after : List ℕ) (r : ℕ) : Type 0 where
   pub number : r ≡ writingRefusalOf e (length before)
   pub output : after ≡ pick (eqb (writingRefusalOf e (length before)) 0) (recordOf e) before
+
+-- ---- of a list of entries: every one is allowed; every place is within its eight bytes
+abbrev pub AllAllowed : List Entry → Type 0
+AllAllowed [] = Unit {0}
+AllAllowed (e ∷ es) = (allowedEntry e ≡ true) × AllAllowed es
+
+abbrev pub PlacesFit : List Entry → Type 0
+PlacesFit [] = Unit {0}
+PlacesFit (e ∷ es) = (e .place < 2 ^ 64) × PlacesFit es

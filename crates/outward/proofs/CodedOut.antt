@@ -14,7 +14,7 @@ use Rattle.octets.proofs.Storing.{put-room}
 use Rattle.array.specs.Listed.{list}
 use Rattle.array.specs.CodingArray.{widthOf, carried, lent, contents, codingRow, codingArray}
 use Rattle.array.proofs.Cells.{wide}
-use Rattle.array.proofs.Sizes.{six}
+use Rattle.array.proofs.PartSizes.{six}
 use Rattle.array.proofs.Filling.{list-length, list-at, list-same}
 use Rattle.code.specs.Code.{checkBytes}
 use Rattle.code.specs.CodeAnswers.{checkRefusal, Checks}

@@ -18,7 +18,7 @@ use Rattle.array.specs.CodingArray.{Wide, superblock, upperRow, widthOf, carrie
 use Rattle.array.specs.OutputArray.{received, rowAt, columnAt, outputAt, outputOf}
 use Rattle.array.specs.PartLengths.{refusalBeside}
 use Rattle.array.proofs.Filling.{Filled, filled-run, list-at, list-length, list-eq, list-same, list-all, getD-any}
-use Rattle.array.proofs.Sizes.{six}
+use Rattle.array.proofs.PartSizes.{six}
 use Rattle.outward.specs.OutClauses.{Free, Held, inArray, beside, outputBy, upperRowAt, lowerRowAt, Upper, Block, Lower, Columns, interleavedAt, interleavingBy, PutsLine}
 use Rattle.outward.specs.WayOut.{outRefusal, Sends}
 

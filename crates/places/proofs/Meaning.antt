@@ -8,11 +8,11 @@ use native.Mathlib.Omega.{arith}
 use borrow.Author.Tests.{eq-eqb, ne-eqb, eqb-true, eqb-false, lt-ltb, le-ltb, ltb-true, ltb-false, le-leb, lt-leb, leb-true, leb-false}
 use lib.Dec.{eqb, ltb, leb}
 use lib.ListN.{length, getD}
-use Rattle.frame.specs.Rules.{Rule, _when_, first, rulesOf, refusalOf}
+use Rattle.frame.specs.Rules.{Rule, _when_, first, NoneHold, FirstToHold, Settled, rulesOf, refusalOf}
 use Rattle.frame.proofs.Accepting.{nothing}
-use Rattle.frame.proofs.FirstRule.{NoneHold, Settled, FirstToHold, only, given, none-hold, none-first, first-zero, first-found}
+use Rattle.frame.proofs.FirstRule.{only, given, none-hold, none-first, first-zero, first-found}
 use Rattle.places.specs.declared.Place.{Place}
-use Rattle.places.specs.Places.{noPlace, placesOf, some, somePair, sameScid, unsized, beyond, meets, placeRules, profileRulesOf, profileOf, Holds, PassesAll, Passes}
+use Rattle.places.specs.Places.{noPlace, placesOf, some, somePair, sameScid, unsized, beyond, meets, placeRules, profileRulesOf, profileOf, Holds, PassesAll, Passes, HoldsOfOne, HoldsOfTwo}
 
 pub clash : {A : Type 0} → true ≡ false → A
 clash h = let z : _≡_ {A = ℕ} 0 1 = cc in absurd (omega arith)
@@ -187,33 +187,21 @@ unfolding profileOf
 told f n h = ap first (h .stands) ∙ given (h .earlier) n (h .later) (h .none)
 
 -- ---- a condition that holds, holds of some stream, of some two
-pub record One (t : Place → Bool) (ps : List Place) : Type 0 where
-  pub at : ℕ
-  pub within : at < length ps
-  pub holds : t (getD ps at noPlace) ≡ true
-
-pub record Two (t : Place → Place → Bool) (ps : List Place) : Type 0 where
-  pub one : ℕ
-  pub other : ℕ
-  pub later : one < other
-  pub within : other < length ps
-  pub holds : t (getD ps one noPlace) (getD ps other noPlace) ≡ true
-
-pub some-found : (t : Place → Bool) (ps : List Place) → some t ps ≡ true → One t ps
+pub some-found : (t : Place → Bool) (ps : List Place) → some t ps ≡ true → HoldsOfOne t ps
 unfolding some
 some-found t [] h = clash (sym h)
 some-found t (p ∷ ps) h = go (t p) refl (some-found t ps) h
   where
-    go : (b : Bool) → t p ≡ b → (some t ps ≡ true → One t ps) → (b || some t ps) ≡ true → One t (p ∷ ps)
+    go : (b : Bool) → t p ≡ b → (some t ps ≡ true → HoldsOfOne t ps) → (b || some t ps) ≡ true → HoldsOfOne t (p ∷ ps)
     go true e ih k = record { at = 0; within = omega arith; holds = e }
     go false e ih k = let o = ih k in record { at = suc (o .at); within = omega (arith, o .within); holds = o .holds }
 
-pub pair-found : (t : Place → Place → Bool) (ps : List Place) → somePair t ps ≡ true → Two t ps
+pub pair-found : (t : Place → Place → Bool) (ps : List Place) → somePair t ps ≡ true → HoldsOfTwo t ps
 unfolding somePair
 pair-found t [] h = clash (sym h)
 pair-found t (p ∷ ps) h = go (some (t p) ps) refl (pair-found t ps) h
   where
-    go : (b : Bool) → some (t p) ps ≡ b → (somePair t ps ≡ true → Two t ps) → (b || somePair t ps) ≡ true → Two t (p ∷ ps)
+    go : (b : Bool) → some (t p) ps ≡ b → (somePair t ps ≡ true → HoldsOfTwo t ps) → (b || somePair t ps) ≡ true → HoldsOfTwo t (p ∷ ps)
     go true e ih k =
         let o = some-found (t p) ps e in
         record { one = 0; other = suc (o .at); later = omega arith; within = omega (arith, o .within); holds = o .holds }

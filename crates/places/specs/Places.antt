@@ -80,3 +80,16 @@ pub record PassesAll (ps : List Place) : Type 0 where
 pub record Passes (f : List ℕ) : Type 0 where
   pub accepted : refusalOf f ≡ 0
   pub all : PassesAll (placesOf f)
+
+-- ---- a condition holds of some stream; of some two
+pub record HoldsOfOne (t : Place → Bool) (ps : List Place) : Type 0 where
+  pub at : ℕ
+  pub within : at < length ps
+  pub holds : t (getD ps at noPlace) ≡ true
+
+pub record HoldsOfTwo (t : Place → Place → Bool) (ps : List Place) : Type 0 where
+  pub one : ℕ
+  pub other : ℕ
+  pub later : one < other
+  pub within : other < length ps
+  pub holds : t (getD ps one noPlace) (getD ps other noPlace) ≡ true

@@ -10,7 +10,7 @@ use Rattle.frame.specs.Rules.{refusalOf}
 use Rattle.places.specs.Places.{profileOf}
 use Rattle.collision.specs.declared.Collision.{Collision}
 use Rattle.collision.specs.declared.Two.{Two}
-use Rattle.collision.specs.Collisions.{twoOf, Finds}
+use Rattle.collision.specs.Collisions.{twoOf, FindsStreams}
 use Rattle.profiles.specs.ProfileBytes.{collisionBytes, CollisionTold}
 
 pub three-bytes : (out : List ℕ) (a b c : ℕ) → length out ≡ 3 → set (set (set out 0 a) 1 b) 2 c ≡ a ∷ b ∷ c ∷ []
@@ -27,7 +27,7 @@ module _ (f before : List ℕ) where
   pub refused : (n : ℕ) → length before ≡ 3 → n ≡ refusalOf f → (n ≡ 0 → ⊥) → CollisionTold f before before n
   refused n h e z = record { number = rw (h, e); bytes = rw (ne-eqb n 0 z) }
 
-  pub told : (n : ℕ) (after : List ℕ) (r : Collision) → length before ≡ 3 → n ≡ refusalOf f → n ≡ 0 → Finds f r → after ≡ r .number ∷ r .two .first ∷ r .two .second ∷ [] → CollisionTold f before after 0
+  pub told : (n : ℕ) (after : List ℕ) (r : Collision) → length before ≡ 3 → n ≡ refusalOf f → n ≡ 0 → FindsStreams f r → after ≡ r .number ∷ r .two .first ∷ r .two .second ∷ [] → CollisionTold f before after 0
   unfolding collisionBytes
   told n after r h e z k a =
       record {

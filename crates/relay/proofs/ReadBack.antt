@@ -15,7 +15,7 @@ use Rattle.frame.specs.declared.Stream.{Stream}
 use Rattle.frame.specs.Frame.{nstOf, ficlOf, ficlBy, streamOf, streamsTo, stlTotal, mainSpan, ficSpan, streamSpan, cut}
 use Rattle.frame.specs.Rules.{refusalOf, Acceptable, streamRefusalOf, granted, mainPart, ficPart, streamPart}
 use Rattle.frame.specs.Answers.{noStream, tableBy, Reads}
-use Rattle.frame.specs.Writing.{entriesOf, ficlIn, writingRefusalOf, frameIn, writtenOf, Writes}
+use Rattle.frame.specs.Writing.{entriesOf, ficlIn, writingRefusalOf, frameIn, writtenOf, Writes, Returned}
 use Rattle.sum.specs.Sum.{sumOf}
 use Rattle.frame.proofs.Accepting.{acceptable, request-within}
 use Rattle.frame.proofs.Fixed.{apart}
@@ -23,7 +23,7 @@ use Rattle.frame.proofs.Streams.{streams-take, streams-at}
 use Rattle.frame.proofs.Tiling.{granted-given, fic-of-main, stream-of-main}
 use Rattle.trips.proofs.Agree.{Agree, agree}
 use Rattle.trips.proofs.Writable.{writable}
-use Rattle.trips.proofs.Written.{Returned, written-read}
+use Rattle.trips.proofs.Written.{written-read}
 use Rattle.relay.specs.Back.{PartsBack, ReadsBack}
 
 -- the parts of a frame that gives back x and m

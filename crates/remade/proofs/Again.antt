@@ -14,7 +14,7 @@ use lib.Seq.{length-take-le, getD-take, getD-drop, drop-drop, take-add}
 use Rattle.octets.specs.Choice.{pick}
 use Rattle.octets.specs.Words.{split, join, bytes4}
 use Rattle.octets.proofs.SplitJoin.{split-join}
-use Rattle.frame.specs.Frame.{statusBy, fsyncBy, fcWidths, errOf, fsyncOf, flOf, carriedBy, cut}
+use Rattle.frame.specs.Frame.{fcWidths, flOf, carriedBy, cut}
 use Rattle.frame.specs.declared.Span.{Span}
 use Rattle.frame.specs.Rules.{refusalOf, mainPart, ficPart, streamPart}
 use Rattle.frame.specs.Answers.{PartAt}
@@ -28,14 +28,14 @@ use Rattle.array.specs.OutputArray.{outputOf, partsOf}
 use Rattle.array.specs.PartLengths.{refusalBeside}
 use Rattle.array.proofs.Cells.{wide}
 use Rattle.array.proofs.Filling.{list-at, list-length, list-all, getD-any}
-use Rattle.array.proofs.Sizes.{sized}
-use Rattle.array.proofs.ThereAndBack.{filled, out-back}
+use Rattle.array.proofs.PartSizes.{sized}
+use Rattle.array.proofs.ThereAndBack.{out-back}
 use Rattle.outward.proofs.CodedOut.{take-list}
 use Rattle.homeward.specs.WayBack.{Returns}
 use Rattle.line.specs.NetworkOut.{logicalLength, logicalOf, withFrame, frameRefusal, SendsFrame}
 use Rattle.line.proofs.FrameOut.{logical-length, logical-within}
 use Rattle.remade.specs.ReadAlike.{ReadAlike}
-use Rattle.remade.specs.Remaking.{digit, flWithin, logicalWithin, startBytes, frameMade, earlyRefusal, makingRefusal, MakesFrame}
+use Rattle.remade.specs.Remaking.{flWithin, logicalWithin, startBytes, frameMade, earlyRefusal, makingRefusal, MakesFrame, cameBack, Own, repadded}
 
 first-four : (f : List ℕ) → 4 ≤ length f → take 4 f ≡ getD f 0 0 ∷ getD f 1 0 ∷ getD f 2 0 ∷ getD f 3 0 ∷ []
 first-four [] h = absurd (omega arith)
@@ -56,35 +56,26 @@ module _ (f : List ℕ) (z : refusalOf f ≡ 0) (w : ℕ) (fits : logicalLength 
   abbrev L : ℕ
   L = logicalLength f
 
-  -- the information that comes back
-  abbrev pub came : List ℕ
-  came = filled w (logicalOf f)
-
   room : 4 + L ≤ length f
   room = logical-within f (flOf f) 0 (sym z) refl refl
 
-  came-at : (k : ℕ) → k < L → getD came k 0 ≡ getD f (4 + k) 0
+  came-at : (k : ℕ) → k < L → getD (cameBack w f) k 0 ≡ getD f (4 + k) 0
   came-at k h =
       list-at (λ n. getD (logicalOf f) n 0xFF) 0 (carried w) k (omega arith)
       ∙ ap (λ (n : ℕ). getD (take n (drop 4 f)) k 0xFF) (add-sub-cancel-left 4 L)
       ∙ getD-take L (drop 4 f) k 0xFF h ∙ getD-drop 4 f k 0xFF ∙ getD-any f (4 + k) 0xFF 0 (omega (arith, room))
 
-  fl-again : flWithin came ≡ flOf f
-  fl-again = same-fl came f (came-at 0 (omega arith)) (came-at 1 (omega arith)) (came-at 2 (omega arith)) (came-at 3 (omega arith))
+  fl-again : flWithin (cameBack w f) ≡ flOf f
+  fl-again = same-fl (cameBack w f) f (came-at 0 (omega arith)) (came-at 1 (omega arith)) (came-at 2 (omega arith)) (came-at 3 (omega arith))
 
-  pub logical-again : logicalWithin came ≡ L
+  pub logical-again : logicalWithin (cameBack w f) ≡ L
   logical-again = ap (λ (n : ℕ). (n + 3) * 4) fl-again
 
-  pub bytes-again : take L came ≡ logicalOf f
+  pub bytes-again : take L (cameBack w f) ≡ logicalOf f
   bytes-again =
       take-list (λ n. getD (logicalOf f) n 0xFF) L (carried w) fits ∙ list-all 0xFF (logicalOf f) L (logical-length f z)
 
-  -- its own status byte and sync word
-  pub record Own (fsync1 : Bool) (level : ℕ) : Type 0 where
-    pub status : statusBy level ≡ errOf f
-    pub sync : fsyncBy (digit fsync1) ≡ fsyncOf f
-
-  start-own : (fsync1 : Bool) (level : ℕ) → Bytes f → Own fsync1 level → startBytes fsync1 level ≡ take 4 f
+  start-own : (fsync1 : Bool) (level : ℕ) → Bytes f → Own f fsync1 level → startBytes fsync1 level ≡ take 4 f
   unfolding startBytes
   start-own fsync1 level y o =
       rw (o .status, o .sync)
@@ -92,18 +83,14 @@ module _ (f : List ℕ) (z : refusalOf f ≡ 0) (w : ℕ) (fits : logicalLength 
       ∙ split-join bytes4 (getD f 0 0 ∷ getD f 1 0 ∷ getD f 2 0 ∷ getD f 3 0 ∷ []) (y 0, (y 1, (y 2, (y 3, tt))))
       ∙ sym (first-four f (omega (arith, room))))
 
-  -- the frame, with padding of 55 whatever its own was
-  pub repadded : List ℕ
-  repadded = take 4 f ++ logicalOf f ++ replicate (6140 - L) 0x55
-
-  pub made-again : (fsync1 : Bool) (level : ℕ) → Bytes f → Own fsync1 level → frameMade fsync1 level came ≡ repadded
+  pub made-again : (fsync1 : Bool) (level : ℕ) → Bytes f → Own f fsync1 level → frameMade fsync1 level (cameBack w f) ≡ repadded f
   unfolding frameMade repadded
   made-again fsync1 level y o =
-      ap₂ (λ (s : List ℕ) (n : ℕ). s ++ take n came ++ replicate (6140 - n) 0x55) (start-own fsync1 level y o) logical-again
+      ap₂ (λ (s : List ℕ) (n : ℕ). s ++ take n (cameBack w f) ++ replicate (6140 - n) 0x55) (start-own fsync1 level y o) logical-again
       ∙ ap (λ (b : List ℕ). take 4 f ++ b ++ replicate (6140 - L) 0x55) bytes-again
 
   -- where that is 55 already, it is the frame
-  pub padded : drop (carriedBy (flOf f)) f ≡ replicate (6144 - carriedBy (flOf f)) 0x55 → repadded ≡ f
+  pub padded : drop (carriedBy (flOf f)) f ≡ replicate (6144 - carriedBy (flOf f)) 0x55 → repadded f ≡ f
   unfolding repadded
   padded e =
       let k : 6140 - L ≡ 6144 - carriedBy (flOf f) = omega arith in
@@ -117,7 +104,7 @@ module _ (f : List ℕ) (z : refusalOf f ≡ 0) (w : ℕ) (fits : logicalLength 
   front : take 4 f ++ logicalOf f ≡ take (4 + L) f
   front = ap (λ (n : ℕ). take 4 f ++ take n (drop 4 f)) (add-sub-cancel-left 4 L) ∙ sym (take-add 4 L f)
 
-  again-length : length repadded ≡ length f
+  again-length : length (repadded f) ≡ length f
   unfolding repadded
   again-length =
       let size : length (take (4 + L) f) ≡ 4 + L = length-take-le (4 + L) f room in
@@ -126,23 +113,23 @@ module _ (f : List ℕ) (z : refusalOf f ≡ 0) (w : ℕ) (fits : logicalLength 
       ∙ length-append (take (4 + L) f) (replicate (6140 - L) 0x55)
       ∙ rw (size, rest) (omega (arith, acceptable f z .whole, room))
 
-  again-kept : (k : ℕ) → k < carriedBy (flOf f) → getD repadded k 0 ≡ getD f k 0
+  again-kept : (k : ℕ) → k < carriedBy (flOf f) → getD (repadded f) k 0 ≡ getD f k 0
   unfolding repadded
   again-kept k h =
       ap (λ (l : List ℕ). getD (l ++ replicate (6140 - L) 0x55) k 0) front
       ∙ List·getD-append (take (4 + L) f) (replicate (6140 - L) 0x55) 0 k (rw (length-take-le (4 + L) f room) h)
       ∙ getD-take (4 + L) f k 0 h
 
-  pub again-accepted : refusalOf repadded ≡ 0
-  again-accepted = accepted-alike f repadded z again-length again-kept
+  pub again-accepted : refusalOf (repadded f) ≡ 0
+  again-accepted = accepted-alike f (repadded f) z again-length again-kept
 
-  pub again-alike : ReadAlike f repadded
+  pub again-alike : ReadAlike f (repadded f)
   again-alike =
       record {
-        reading = λ r q a b. reading-fixed f r q a (read-alike f repadded z again-length again-kept q b);
-        main = λ s t p q e d a b. part mainPart s t p q e d (main-alike f repadded z again-length again-kept) a b;
-        fic = λ s t p q e d a b. part ficPart s t p q e d (fic-alike f repadded z again-length again-kept) a b;
-        stream = λ i s t p q e d a b. part (λ l. streamPart l i) s t p q e d (stream-alike f repadded z again-length again-kept i) a b;
+        reading = λ r q a b. reading-fixed f r q a (read-alike f (repadded f) z again-length again-kept q b);
+        main = λ s t p q e d a b. part mainPart s t p q e d (main-alike f (repadded f) z again-length again-kept) a b;
+        fic = λ s t p q e d a b. part ficPart s t p q e d (fic-alike f (repadded f) z again-length again-kept) a b;
+        stream = λ i s t p q e d a b. part (λ l. streamPart l i) s t p q e d (stream-alike f (repadded f) z again-length again-kept i) a b;
       }
 
 -- ---- the three calls one after the other
@@ -181,7 +168,7 @@ module _ (fourteen : Bool) (f m s g h out o : List ℕ) (n : ℕ) (sends : Sends
   output : o ≡ outputOf width parts
   output = let b = sends .bytes in rw sent at b
 
-  pub information-back : (before after : Parts) (k : ℕ) → Returns fourteen o before after k → k ≡ 0 → after .information ≡ came f accepted width carries
+  pub information-back : (before after : Parts) (k : ℕ) → Returns fourteen o before after k → k ≡ 0 → after .information ≡ cameBack width f
   information-back before after k t e =
       let b = t .parts in
       let q : after ≡ partsOf width o = (rw e at b) in
@@ -189,10 +176,10 @@ module _ (fourteen : Bool) (f m s g h out o : List ℕ) (n : ℕ) (sends : Sends
       ap (λ (x : Parts). x .information) (q ∙ ap (partsOf width) output ∙ out-back (wide fourteen) parts S)
 
   -- what is made of it with its own sync word and status byte is the frame with padding of 55
-  module _ (fsync1 : Bool) (level : ℕ) (before after : Parts) (k : ℕ) (room made : List ℕ) (r : ℕ) (y : Bytes f) (own : Own f accepted width carries fsync1 level) (l : level ≤ 3)
+  module _ (fsync1 : Bool) (level : ℕ) (before after : Parts) (k : ℕ) (room made : List ℕ) (r : ℕ) (y : Bytes f) (own : Own f fsync1 level) (l : level ≤ 3)
       (t : Returns fourteen o before after k) (q : k ≡ 0) (size : length room ≡ 6144) (makes : MakesFrame fourteen fsync1 level (after .information) room made r) where
     again : List ℕ
-    again = repadded f accepted width carries
+    again = repadded f
 
     made-repadded : (r ≡ 0) × (made ≡ again)
     unfolding makingRefusal earlyRefusal again

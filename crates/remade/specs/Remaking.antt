@@ -9,9 +9,10 @@ use lib.ListN.{length, getD, take, replicate}
 pub use Rattle.sum.specs.Sum.{digit}
 use Rattle.octets.specs.Choice.{pick}
 use Rattle.octets.specs.Words.{split, join, wordAt, bytes4}
-use Rattle.frame.specs.Frame.{syncWidths, statusBy, fsyncBy, fcWidths}
+use Rattle.frame.specs.Frame.{syncWidths, statusBy, fsyncBy, fcWidths, errOf, fsyncOf}
 use Rattle.frame.specs.Rules.{refusalOf}
-use Rattle.array.specs.CodingArray.{widthOf, carried}
+use Rattle.array.specs.CodingArray.{widthOf, carried, filled}
+use Rattle.line.specs.NetworkOut.{logicalLength, logicalOf}
 
 -- FL, the lowest field of FC, which is the first word of the information
 unfoldable pub flWithin : List ℕ → ℕ
@@ -43,3 +44,16 @@ makingRefusal w fsync1 level b output =
 pub record MakesFrame (fourteen fsync1 : Bool) (level : ℕ) (b before after : List ℕ) (n : ℕ) : Type 0 where
   pub number : n ≡ makingRefusal (widthOf fourteen) fsync1 level b (length before)
   pub bytes : after ≡ pick (eqb n 0) (frameMade fsync1 level b) before
+
+-- ---- a frame sent and brought back: the information that came back, over the row's information width
+abbrev pub cameBack : ℕ → List ℕ → List ℕ
+cameBack w f = filled w (logicalOf f)
+
+-- the frame's own sync word, and the level of its own status byte
+pub record Own (f : List ℕ) (fsync1 : Bool) (level : ℕ) : Type 0 where
+  pub status : statusBy level ≡ errOf f
+  pub sync : fsyncBy (digit fsync1) ≡ fsyncOf f
+
+-- the frame, with padding of 55 whatever its own was
+unfoldable pub repadded : List ℕ → List ℕ
+repadded f = take 4 f ++ logicalOf f ++ replicate (6140 - logicalLength f) 0x55

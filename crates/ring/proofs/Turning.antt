@@ -12,7 +12,7 @@ use lib.ListN.{length, take, drop, getD, set, length-append, length-drop, List·
 use lib.Seq.{drop-append-le, getD-append-add, drop-drop, take-all, take-suc, take-suc-set, drop-set-lt, getD-drop, getD-take, length-take-le}
 use Rattle.linear.proofs.Linear.{xors, nth}
 use Rattle.sum.specs.Sum.{Register, feed, after}
-use Rattle.sum.proofs.Laws.{after-append}
+use Rattle.sum.proofs.SumLaws.{after-append}
 use Rattle.ring.specs.Ring.{tapped, owed, turned, Same, Turn}
 use Rattle.ring.proofs.Feedback.{one-more}
 

@@ -1,4 +1,4 @@
 pub mod Stored
-pub mod Again
+pub mod GatheredAgain
 pub mod Coming
 pub mod Sent

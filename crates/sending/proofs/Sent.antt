@@ -10,18 +10,18 @@ use lib.Dec.{lit<}
 use lib.ListN.{length, take, drop, length-drop}
 use lib.Seq.{length-take-le, drop-at}
 use Rattle.sum.specs.Sum.{sumOf, sent}
-use Rattle.sum.proofs.Laws.{sum-lt}
+use Rattle.sum.proofs.SumLaws.{sum-lt}
 use Rattle.signalling.specs.declared.State.{State}
 use Rattle.signalling.specs.Feeding.{run}
 use Rattle.signalling.specs.Groups.{Frame, gathering}
 use Rattle.signalling.specs.Messages.{inRow, Handed, message, items, stringing}
 use Rattle.signalling.specs.Following.{Holds, Calls}
 use Rattle.signalling.proofs.Holding.{calls-follow}
-use Rattle.sending.specs.SentGroups.{endGroup, continuations, beforeEnd, groupsOf, grNbFor, bytesOf, framesFrom, framesOf, Sends}
+use Rattle.sending.specs.SentGroups.{endGroup, continuations, beforeEnd, groupsOf, grNbFor, bytesOf, framesFrom, framesOf, SendsMessage}
 use Rattle.sending.specs.SendClauses.{Carries}
 use Rattle.sending.specs.MessageTrips.{Octets, Eights, Padded, atStart, told}
 use Rattle.sending.proofs.Stored.{carried}
-use Rattle.sending.proofs.Again.{end-length, last-four, back-again}
+use Rattle.sending.proofs.GatheredAgain.{end-length, last-four, back-again}
 
 -- ---- the groups' bytes are bytes
 joined : {xs ys : List ℕ} → Octets xs → Octets ys → Octets (xs ++ ys)
@@ -79,7 +79,7 @@ module _ (type n : ℕ) (body : List ℕ) (h : length body ≡ 8 + 6 * n) (t : t
       ∙ ap (λ (l : List Handed). items seen ++ told (stringing seen) (message type body ∷ l)) no-items
 
 -- SENT AND GATHERED: what `send` leaves, in frames, given to calls of the step from any state that holds the frames seen and is at a group's beginning
-pub sent-gathered : (type : ℕ) (body l out : List ℕ) → Sends type body l 0 out → type < 256 → Octets body
+pub sent-gathered : (type : ℕ) (body l out : List ℕ) → SendsMessage type body l 0 out → type < 256 → Octets body
     → (seen : List Frame) (w : Bool) → gathering seen ≡ atStart w → (s : State) (buffer : List ℕ) → Holds (gathering seen) (stringing seen) s buffer
     → (xs : List Handed) → Calls s buffer (framesFrom 0 out) xs → xs ≡ told (stringing seen) (message type body ∷ [])
 unfolding bytesOf

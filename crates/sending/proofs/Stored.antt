@@ -17,9 +17,9 @@ use Rattle.octets.specs.Words.{split, bytes2, bytes4}
 use Rattle.octets.specs.Stores.{put}
 use Rattle.octets.proofs.Storing.{put-length, put-chain, put-none, put-all, put-more}
 use Rattle.signalling.specs.Messages.{inRow}
-use Rattle.signalling.proofs.Pairs.{pair-then}
+use Rattle.signalling.proofs.PairsStored.{pair-then}
 use Rattle.signalling.proofs.Stringing.{put-take, each-snoc}
-use Rattle.sending.specs.SentGroups.{startGroup, continuationGroup, endGroup, continuations, beforeEnd, groupsOf, sendRefusal, grNbFor, bytesOf, Sends}
+use Rattle.sending.specs.SentGroups.{startGroup, continuationGroup, endGroup, continuations, beforeEnd, groupsOf, sendRefusal, grNbFor, bytesOf, SendsMessage}
 use Rattle.sending.specs.SendClauses.{Carries}
 
 -- a turn of the loop that copies
@@ -154,8 +154,8 @@ pub carried : (len out r : ℕ) → r ≡ sendRefusal len out → r ≡ 0 → Ca
 unfolding sendRefusal
 carried len out r e z = none-holds len out (ltb len 8) (ltb 1538 len) (eqb ((len - 8) % 6) 0) (eqb out (8 * ((len - 8) / 6 + 2))) refl refl refl refl (sym z ∙ e)
 
-pub refuses : (type : ℕ) (body l : List ℕ) (r : ℕ) → r ≡ sendRefusal (length body) (length l) → (r ≡ 0 → ⊥) → Sends type body l r l
+pub refuses : (type : ℕ) (body l : List ℕ) (r : ℕ) → r ≡ sendRefusal (length body) (length l) → (r ≡ 0 → ⊥) → SendsMessage type body l r l
 refuses type body l r e z = record { number = e; bytes = rw (ne-eqb r 0 z) }
 
-pub sends : (type : ℕ) (body l : List ℕ) (r : ℕ) (after : List ℕ) → r ≡ sendRefusal (length body) (length l) → r ≡ 0 → after ≡ bytesOf type body → Sends type body l 0 after
+pub sends : (type : ℕ) (body l : List ℕ) (r : ℕ) (after : List ℕ) → r ≡ sendRefusal (length body) (length l) → r ≡ 0 → after ≡ bytesOf type body → SendsMessage type body l 0 after
 sends type body l r after e z q = record { number = sym z ∙ e; bytes = q }

@@ -60,6 +60,6 @@ sendRefusal len out =
     36))
 
 -- the number, and the output after it: the bytes of the pairs, or, refused, what it held
-pub record Sends (type : ℕ) (body l : List ℕ) (r : ℕ) (after : List ℕ) : Type 0 where
+pub record SendsMessage (type : ℕ) (body l : List ℕ) (r : ℕ) (after : List ℕ) : Type 0 where
   pub number : r ≡ sendRefusal (length body) (length l)
   pub bytes : after ≡ pick (eqb r 0) (bytesOf type body) l

@@ -6,7 +6,7 @@ ghost use lib.ListN.{length, take, drop};
 ghost use Rattle.sum.specs.Sum.{sumOf};
 ghost use Rattle.octets.specs.Stores.{put};
 ghost use Rattle.signalling.specs.Messages.{inRow};
-ghost use Rattle.sending.specs.SentGroups.{startGroup, continuationGroup, endGroup, continuations, sendRefusal, bytesOf, Sends};
+ghost use Rattle.sending.specs.SentGroups.{startGroup, continuationGroup, endGroup, continuations, sendRefusal, bytesOf, SendsMessage};
 ghost use Rattle.sending.specs.SendClauses.{Carries};
 
 // 36 where the groups cannot carry the length; then 1 where the output is of another length than needed.
@@ -106,7 +106,7 @@ fn put_groups(kind: u8, m: &[u8], out: &mut [u8])
 // A message into the byte pairs of its frames: pair k, two bytes from 2 k on, goes into a frame whose phase is k modulo 4.
 // The number of the refusal, 0 for none; refused, the output is as it was.
 pub fn send(kind: u8, m: &[u8], out: &mut [u8]) -> u8
-    ensures { λ r. ⌜ Sends kind (now (m .entry)) (now (out .entry)) r (now (out .exit)) ⌝ }
+    ensures { λ r. ⌜ SendsMessage kind (now (m .entry)) (now (out .entry)) r (now (out .exit)) ⌝ }
 {
     let refusal = send_refusal(m.len(), out.len());
     if refusal != 0 {

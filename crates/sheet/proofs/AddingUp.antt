@@ -10,9 +10,9 @@ use lib.Dec.{eqb}
 use lib.ListN.{length, getD}
 use Rattle.sum.specs.Sum.{digit}
 use Rattle.log.specs.declared.Entry.{Entry}
-use Rattle.log.specs.Log.{allowed, lostCode, entriesOf, recordsIn, logRefusalOf}
-use Rattle.log.proofs.Accepted.{AllAllowed, all-allowed, both}
-use Rattle.sheet.specs.Sheets.{count, isFrame, isLost, isIdle, frameAt, lostBy, sheetOf}
+use Rattle.log.specs.Log.{allowed, lostCode, entriesOf, recordsIn, logRefusalOf, AllAllowed}
+use Rattle.log.proofs.Accepted.{all-allowed, both}
+use Rattle.sheet.specs.Sheets.{count, isFrame, isLost, isIdle, frameAt, lostBy, sheetOf, total}
 use Rattle.sheet.proofs.RowsMean.{frame-parts, code-le, frames-at, lost-by, idle-in}
 use Rattle.sheet.proofs.Weeks.{adds-up}
 
@@ -81,20 +81,17 @@ codes [] a = refl
 codes (e ∷ es) a = omega (arith, one-code (e .kind) (e .code) (e .level) (a .0), codes es (a .1))
 
 module _ (es : List Entry) (a : AllAllowed es) where
-  abbrev pub total : ℕ → ℕ
-  total k = getD (sheetOf es .totals) k 0
-
   -- the four rows of frames, and the eight of lost marks
-  pub frames-in : total 0 + total 1 + total 2 + total 3 ≡ count isFrame es
+  pub frames-in : total es 0 + total es 1 + total es 2 + total es 3 ≡ count isFrame es
   frames-in =
       rw (frames-at es a 0 (omega arith), frames-at es a 1 (omega arith), frames-at es a 2 (omega arith), frames-at es a 3 (omega arith)) (levels es a)
 
-  pub lost-in : total 6 + total 7 + total 9 + total 10 + total 11 + total 12 + total 13 + total 14 ≡ count isLost es
+  pub lost-in : total es 6 + total es 7 + total es 9 + total es 10 + total es 11 + total es 12 + total es 13 + total es 14 ≡ count isLost es
   lost-in =
       rw (lost-by es a 2 (omega arith), lost-by es a 3 (omega arith), lost-by es a 5 (omega arith), lost-by es a 6 (omega arith), lost-by es a 7 (omega arith), lost-by es a 8 (omega arith), lost-by es a 9 (omega arith), lost-by es a 10 (omega arith)) (codes es a)
 
   -- rows 4, 5 and 8 count nothing
-  pub rows-empty : (total 4 ≡ 0) × (total 5 ≡ 0) × (total 8 ≡ 0)
+  pub rows-empty : (total es 4 ≡ 0) × (total es 5 ≡ 0) × (total es 8 ≡ 0)
   unfolding lostCode
   rows-empty =
       (lost-by es a 0 (omega arith) ∙ uncounted 0 refl es a, lost-by es a 1 (omega arith) ∙ uncounted 1 refl es a, lost-by es a 4 (omega arith) ∙ uncounted 4 refl es a)

@@ -1,6 +1,6 @@
 pub mod AddingUp
 pub mod Gaps
-pub mod GoingOn
+pub mod SheetRoom
 pub mod RowsMean
 pub mod SheetExamples
 pub mod Summing

@@ -10,8 +10,8 @@ use lib.Dec.{eqb, leb}
 use lib.ListN.{length, getD, getD-replicate}
 use Rattle.sum.specs.Sum.{digit}
 use Rattle.log.specs.declared.Entry.{Entry}
-use Rattle.log.specs.Log.{allowed, allowedEntry, lostCode}
-use Rattle.log.proofs.Accepted.{AllAllowed, both}
+use Rattle.log.specs.Log.{allowed, allowedEntry, lostCode, AllAllowed}
+use Rattle.log.proofs.Accepted.{both}
 use Rattle.sheet.specs.Sheets.{count, isFrame, isLost, isIdle, frameAt, lostBy, rowBy, inRow, nothing, added, sheetOf}
 use Rattle.sheet.proofs.Totals.{total-at}
 

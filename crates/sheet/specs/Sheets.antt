@@ -106,6 +106,10 @@ nothing = record { totals = replicate 16 0; run = record { high = 0; low = 0; me
 abbrev pub sheetOf : List Entry → Sheet
 sheetOf es = added nothing es
 
+-- the total of row k in it
+abbrev pub total : List Entry → ℕ → ℕ
+total es k = getD (sheetOf es .totals) k 0
+
 -- what the seam of two lists adds: the difference from the last FCT of the one to the first of the other
 abbrev pub seam : List ℕ → List ℕ → ℕ
 seam [] bs = 0

@@ -14,17 +14,17 @@ use Rattle.octets.specs.Words.{split, bytes8, eightAt}
 use Rattle.octets.proofs.SplitJoin.{join-split}
 use Rattle.octets.proofs.Storing.{each-length}
 use Rattle.log.specs.declared.Entry.{Entry}
-use Rattle.log.specs.Log.{recordsIn, entriesTo, entriesOf, logRefusalOf}
-use Rattle.log.proofs.Accepted.{AllAllowed, whole, all-allowed}
+use Rattle.log.specs.Log.{recordsIn, entriesTo, entriesOf, logRefusalOf, AllAllowed}
+use Rattle.log.proofs.Accepted.{whole, all-allowed}
 use Rattle.log.proofs.Returned.{behind, moved, entries-length}
 use Rattle.sheet.specs.declared.Sheet.{Sheet}
 use Rattle.sheet.specs.Sheets.{count, totalsTo, fctsOf, gaps, lastAfter, runBy, added, sheetOf, goesOn, addingRefusalOf}
-use Rattle.sheet.proofs.GoingOn.{sheet-goes-on, totals-hold, run-holds}
+use Rattle.sheet.proofs.SheetRoom.{sheet-goes-on, totals-hold, run-holds}
 use Rattle.sheet.proofs.Summing.{adding-accepted}
 use Rattle.sheet.proofs.Totals.{total-length}
 use Rattle.sheet.proofs.Weeks.{joined, logs-added}
 use Rattle.controller.specs.Boundary.{Told, lentRefusal}
-use Rattle.sheets.specs.SheetBytes.{sheetBytes, totalsIn, sheetIn, addedBytes, Summed, none, more}
+use Rattle.sheets.specs.SheetBytes.{sheetBytes, totalsIn, sheetIn, addedBytes, Summed, none, more, Week}
 use Rattle.sheets.proofs.SheetStored.{all-read}
 
 -- ---- what is stored is read back
@@ -110,12 +110,6 @@ module _ (s : Sheet) (l was left : List ℕ) (e : sheetIn was ≡ s) (t : Told 1
       ap sheetIn call-left ∙ read-back (added s (entriesOf l)) (added-length s (entriesOf l)) (λ (k : ℕ). totals-hold s (entriesOf l) g k few) (r .0) (r .1)
 
 -- ---- all the calls
-pub record Week (l b : List ℕ) : Type 0 where
-  pub even : length l ≡ 16 * recordsIn l
-  pub bytes : b ≡ sheetBytes (sheetOf (entriesOf l))
-  pub read : sheetIn b ≡ sheetOf (entriesOf l)
-  pub allowed : AllAllowed (entriesOf l)
-
 all-append : (es fs : List Entry) → AllAllowed es → AllAllowed fs → AllAllowed (es ++ fs)
 all-append [] fs a b = b
 all-append (e ∷ es) fs a b = (a .0, all-append es fs (a .1) b)

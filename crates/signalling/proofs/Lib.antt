@@ -1,4 +1,4 @@
-pub mod Pairs
+pub mod PairsStored
 pub mod Register
 pub mod Fed
 pub mod Stringing

@@ -5,7 +5,7 @@ use mathlib.Core.Path.{_≡_, refl, sym, ap, _∙_}
 use Prim.Native.Nat.{ℕ, _-_, _^_, _<_}
 use Rattle.sum.specs.Sum.{Register, bit, load, ones, word, feed, after, inverted, sumOf}
 use Rattle.sum.proofs.Shifts.{load-word, word-load}
-use Rattle.sum.proofs.Laws.{after-append, inverse}
+use Rattle.sum.proofs.SumLaws.{after-append, inverse}
 use Rattle.signalling.specs.OnNumbers.{fed}
 
 pub load-ones : load 65535 ≡ ones

@@ -11,7 +11,7 @@ use lib.ListN.{length, take, drop, length-append}
 use lib.Seq.{length-take-le, take-at}
 use borrow.Author.Tests.{ltb-true, eqb-true}
 use Rattle.sum.specs.Sum.{ones, word, after, sumOf}
-use Rattle.sum.proofs.Laws.{after-append}
+use Rattle.sum.proofs.SumLaws.{after-append}
 use Rattle.octets.specs.Choice.{pick}
 use Rattle.octets.specs.Stores.{put, bytesOfEach}
 use Rattle.octets.proofs.Storing.{put-room, put-length, each-append}

@@ -4,7 +4,7 @@ ghost use Prim.Native.Nat.{_<_, _^_};
 ghost use lib.ListN.{length};
 ghost use Rattle.sum.specs.Sum.{digit};
 ghost use Rattle.octets.specs.Words.{join, Fit};
-ghost use Rattle.sending.specs.SentGroups.{Sends};
+ghost use Rattle.sending.specs.SentGroups.{SendsMessage};
 ghost use Rattle.signals.specs.SignalBytes.{itemKind, itemNumber, itemLength, groupWidths, groupValues, groupIn, messageWidths, messageValues, messageIn, stateAt, Signalled};
 ghost use Rattle.signals.specs.SignalClauses.{Left};
 use signalling::Group;
@@ -158,7 +158,7 @@ pub extern "C" fn spindlewren_signal_step(
 // A message into the byte pairs of its frames: `send`.
 #[no_mangle]
 pub extern "C" fn spindlewren_signal_write(kind: u8, message: &[u8], out: &mut [u8]) -> u8
-    ensures { λ r. ⌜ Sends kind (now (message .entry)) (now (out .entry)) r (now (out .exit)) ⌝ }
+    ensures { λ r. ⌜ SendsMessage kind (now (message .entry)) (now (out .entry)) r (now (out .exit)) ⌝ }
 {
     sending::send(kind, message, out)
 }

@@ -13,7 +13,7 @@ use lib.Seq.{take-add, take-suc, take-all, drop-drop}
 use Rattle.octets.specs.Words.{split, bytes4}
 use Rattle.linear.proofs.Linear.{Linear, xors, right, left, low, then, nth, none, more, agree}
 use Rattle.sum.specs.Sum.{Register, stages, bit, feed, after, word, load}
-use Rattle.sum.proofs.Laws.{after-append}
+use Rattle.sum.proofs.SumLaws.{after-append}
 use Rattle.sum.proofs.Bits.{⊕-false}
 use Rattle.sum.proofs.Shifts.{_⊞_, Kept, loaded, fed, read, load-word, word-xor}
 use Rattle.stretch.specs.Stretch.{after4, after8, afters, blank, Stands}

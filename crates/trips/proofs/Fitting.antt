@@ -14,9 +14,8 @@ use Rattle.octets.specs.Words.{split, join, Fit, wordAt}
 use Rattle.octets.specs.Choice.{placeIn}
 use Rattle.frame.specs.Frame.{syncWidths, errOf, fsyncOf, statusBy, fsyncBy, fcWidths, fcOf, fctOf, ficfOf, nstOf, fpOf, midOf, flOf, sstcWidths, streamOf, streamsTo, eohWidths, eohOf, mnscOf, headerSumOf, eofWidths, eofOf, mainSumOf, rfuOf, tistWidths, tistOf, rfaOf, timeOf, statuses, mainOf, levelBy, levelOf}
 use Rattle.frame.specs.Answers.{noStream}
-use Rattle.frame.specs.Writing.{streamValues, Clean}
+use Rattle.frame.specs.Writing.{streamValues, Clean, plainWidths}
 use Rattle.octets.proofs.SplitJoin.{split-fit, split-join}
-use Rattle.trips.proofs.Writable.{plainWidths}
 
 -- ---- bounds
 pub status-lt : (level : ℕ) → statusBy level < 2 ^ 8

@@ -8,15 +8,14 @@ use native.Mathlib.Omega.{arith}
 use lib.ListN.{length, getD, take, drop, replicate, length-append}
 use lib.Seq.{take-at, drop-at, getD-append-add, getD-append-seam, split-at, length-take-le}
 use Rattle.sum.specs.Sum.{sumOf}
-use Rattle.sum.proofs.Laws.{sum-lt}
+use Rattle.sum.proofs.SumLaws.{sum-lt}
 use Rattle.frame.specs.declared.Fields.{Fields}
 use Rattle.frame.specs.declared.Stream.{Stream}
 use Rattle.octets.specs.Words.{split, join, Fit, bytes2, bytes4, wordAt}
 use Rattle.frame.specs.Frame.{syncWidths, statusBy, fsyncBy, fcWidths, sstcWidths, eohWidths, eofWidths, tistWidths, carriedBy}
-use Rattle.frame.specs.Writing.{entriesOf, flIn, streamValues, streamsBytes, syncIn, headerIn, endIn, frameIn}
+use Rattle.frame.specs.Writing.{entriesOf, flIn, streamValues, streamsBytes, syncIn, headerIn, endIn, frameIn, AllFit}
 use Rattle.frame.specs.Answers.{timeBy, digit, noStream}
 use Rattle.frame.proofs.Entries.{bytes-append, bytes-length}
-use Rattle.trips.proofs.Writable.{AllFit}
 use Rattle.octets.proofs.SplitJoin.{join-split, split-fit, split-join, join-lt}
 
 -- the four bytes of a word, and the two of half a word

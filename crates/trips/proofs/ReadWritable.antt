@@ -16,7 +16,7 @@ use Rattle.octets.specs.Choice.{placeIn}
 use Rattle.frame.specs.Frame.{statuses, errOf, nstOf, ficlBy, ficlOf, sstcWidths, streamOf, streamsTo, streamsOf, stlTotal, mainOf, mainSumOf, timeOf, levelBy, levelOf}
 use Rattle.frame.specs.Rules.{someStlAbove, refusalOf, Acceptable}
 use Rattle.frame.specs.Answers.{timestampFor, returningOf}
-use Rattle.frame.specs.Writing.{entriesOf, valuesIn, timeWider, streamValues, writingRefusalOf}
+use Rattle.frame.specs.Writing.{entriesOf, valuesIn, timeWider, streamValues, writingRefusalOf, AllFit, Writable}
 use Rattle.frame.proofs.Accepting.{acceptable}
 use Rattle.frame.proofs.Headers.{time-of-lt}
 use Rattle.frame.proofs.Places.{status-placed}
@@ -25,7 +25,7 @@ use Rattle.frame.proofs.Timestamps.{timestamp-fixed, time-carried}
 use Rattle.octets.proofs.SplitJoin.{split-fit}
 use Rattle.trips.proofs.Agree.{Agree, agree}
 use Rattle.trips.proofs.Fitting.{plain-fit}
-use Rattle.trips.proofs.Writable.{AllFit, Writable, unrefused}
+use Rattle.trips.proofs.Writable.{unrefused}
 
 -- the level handed on is one of 0 to 3
 pub level-le : (n : ℕ) (b : Bool) → n ≤ 3 → levelBy n b ≤ 3

@@ -3,7 +3,7 @@
 use mathlib.Core.Bool.{false}
 use mathlib.Core.List.{List, [], _∷_}
 use mathlib.Core.Path.{_≡_, refl}
-use Prim.Native.Nat.{ℕ, _+_, _*_, _^_, _≤_}
+use Prim.Native.Nat.{ℕ, _^_}
 use native.Mathlib.Nat.{suc-inj}
 use native.Mathlib.Omega.{arith}
 use lib.Dec.{leb}
@@ -12,35 +12,11 @@ use borrow.Author.Tests.{le-ltb, lt-leb, eqb-true, ltb-false, leb-false, not-fal
 use Rattle.frame.specs.declared.Fields.{Fields}
 use Rattle.frame.specs.declared.Stream.{Stream}
 use Rattle.octets.specs.Words.{Fit}
-use Rattle.frame.specs.Frame.{sstcWidths, stlTotal}
-use Rattle.frame.specs.Rules.{someStlAbove}
-use Rattle.frame.specs.Writing.{entriesOf, ficlIn, flIn, someWider, timeWider, streamValues, someStreamWider, wider, writingRulesOf, writingRefusalOf}
+use Rattle.frame.specs.Frame.{sstcWidths}
+use Rattle.frame.specs.Rules.{NoneHold}
+use Rattle.frame.specs.Writing.{entriesOf, someWider, streamValues, someStreamWider, plainWidths, plainIn, wider, writingRulesOf, writingRefusalOf, AllFit, Writable}
 use Rattle.octets.proofs.Deciding.{equal, neither}
-use Rattle.frame.proofs.FirstRule.{NoneHold, none-hold, none-first}
-
--- the widths of FCT, FP, MID, MNSC, Rfu, Rfa, and these values
-abbrev pub plainWidths : List ℕ
-plainWidths = 8 ∷ 3 ∷ 2 ∷ 16 ∷ 16 ∷ 8 ∷ []
-
-abbrev pub plainIn : Fields → List ℕ
-plainIn x = x .fct ∷ x .fp ∷ x .mid ∷ x .mnsc ∷ x .rfu ∷ x .rfa ∷ []
-
--- each value of each entry is within its width
-abbrev pub AllFit : List Stream → Type 0
-AllFit [] = Unit {0}
-AllFit (s ∷ ss) = Fit sstcWidths (streamValues s) × AllFit ss
-
--- none of writing's rules holds; main is the length of the main stream lent
-pub record Writable (x : Fields) (main : ℕ) : Type 0 where
-  pub level : x .level ≤ 3
-  pub plain : Fit plainWidths (plainIn x)
-  pub time : timeWider (x .timestamp) ≡ false
-  pub entries : AllFit (entriesOf x)
-  pub streams : x .count ≤ 64
-  pub counted : x .fct ≤ 249
-  pub lengths : someStlAbove 684 (entriesOf x) ≡ false
-  pub room : flIn x ≤ 1532
-  pub whole : main ≡ 4 * ficlIn x + 8 * stlTotal (entriesOf x)
+use Rattle.frame.proofs.FirstRule.{none-hold, none-first}
 
 -- no value is wider, and each is within its width
 fit : (ks vs : List ℕ) → length ks ≡ length vs → someWider ks vs ≡ false → Fit ks vs

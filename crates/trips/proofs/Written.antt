@@ -8,14 +8,14 @@ use native.Mathlib.Omega.{arith}
 use lib.ListN.{length, getD, take, drop, replicate, length-replicate}
 use lib.Seq.{take-length, length-take-le}
 use Rattle.sum.specs.Sum.{sumOf}
-use Rattle.sum.proofs.Laws.{sum-lt}
+use Rattle.sum.proofs.SumLaws.{sum-lt}
 use Rattle.frame.specs.declared.Fields.{Fields}
 use Rattle.octets.specs.Words.{Fit, wordAt}
 use Rattle.octets.specs.Choice.{placeIn}
 use Rattle.frame.specs.Frame.{statuses, statusBy, fsyncs, fsyncBy, syncWidths, errOf, fsyncOf, fcWidths, nstOf, flOf, ficlBy, streamOf, streamsTo, streamsOf, stlTotal, eohWidths, headerBytesOf, headerSumOf, mnscOf, mainStart, mainEnd, mainOf, eofWidths, mainSumOf, rfuOf, tistWidths, rfaOf, timeOf, carriedBy}
-use Rattle.frame.specs.Rules.{someStlAbove, refusalOf, Acceptable}
-use Rattle.frame.specs.Answers.{digit, noStream, timeBy, timestampValues, timestampFor, returningOf}
-use Rattle.frame.specs.Writing.{entriesOf, ficlIn, flIn, valuesIn, headerIn, frameIn, Clean}
+use Rattle.frame.specs.Rules.{someStlAbove, Acceptable}
+use Rattle.frame.specs.Answers.{digit, noStream, timeBy, timestampValues, timestampFor}
+use Rattle.frame.specs.Writing.{entriesOf, ficlIn, flIn, Writable, headerIn, frameIn, Clean, Returned}
 use Rattle.octets.proofs.SplitJoin.{join-lt}
 use Rattle.frame.proofs.Accepting.{accepted}
 use Rattle.frame.proofs.Places.{level-back, fsync-back, fsync-one, status-one}
@@ -25,15 +25,6 @@ use Rattle.sum.proofs.Bits.{digit-lt}
 use Rattle.trips.proofs.Agree.{agreed}
 use Rattle.trips.proofs.Laid.{two, two-length, halves, fit-at, laid-length, at-sync, at-fc, at-entry, at-eoh, at-eof, at-tist, header-of, main-of, padding-of, syncValues, fcValues, eohValues, eofValues, tistValues, paddingIn, header-laid, laidIn, frame-laid}
 use Rattle.trips.proofs.Fitting.{status-lt, fsync-lt, clean-level, all-ones, FcRead, sync-read, fc-read, eoh-read, eof-read, tist-read, entry-read, entries-read}
-use Rattle.trips.proofs.Writable.{Writable}
-
--- f, read, gives back x and m
-pub record Returned (x : Fields) (m f : List ℕ) : Type 0 where
-  pub number : refusalOf f ≡ 0
-  pub values : returningOf f ≡ valuesIn x
-  pub streams : streamsOf f ≡ entriesOf x
-  pub main : mainOf f ≡ m
-  pub clean : Clean f
 
 module _ (x : Fields) (m : List ℕ) (w : Writable x (length m)) (l : length (x .table) ≡ 64) (f : List ℕ) (g : f ≡ laidIn x m) where
   entries : length (entriesOf x) ≡ x .count

@@ -1,6 +1,7 @@
 -- The walk that holds its record: at its beginning, after a step, and what its n-th step hands back.
 -- Assumes nothing.
 use mathlib.Core.List.{List}
+use mathlib.Core.Path.{_≡_}
 use Prim.Native.Nat.{ℕ}
 use denote.Ref.{RefT, now}
 use lib.Dec.{leb}
@@ -13,7 +14,7 @@ use Rattle.walk.specs.declared.Item.the-variants.{Frame, Lost, Idle, Done}
 use Rattle.walk.specs.declared.State.{State}
 use Rattle.walk.specs.declared.Step.{Step}
 use Rattle.walk.specs.Walk.{begin, items, rest}
-use Rattle.walk.specs.Records.{judged, allowed, limitRefusalOf, start, stepAt, stateAfter}
+use Rattle.walk.specs.Records.{judged, part, allowed, limitRefusalOf, start, stepAt, stateAfter}
 use Rattle.walker.specs.declared.Walk.{Walk}
 use Rattle.walker.specs.declared.Advanced.{Advanced}
 use Rattle.walker.specs.declared.Reached.{Reached}
@@ -65,3 +66,10 @@ nthOf m bytes n = record { number = limitRefusalOf m; step = stepAt bytes (state
 -- the n-th of the items that the record's walk with limit m hands out; after the last of them done, where the walk rests; where the limit is refused, done at place 0
 unfoldable pub itemOf : ℕ → List ℕ → ℕ → Item
 itemOf m bytes n = pick (allowed m) (getD (items (judged m bytes) begin) n (Done (rest (judged m bytes) begin .place))) (Done 0)
+
+-- the frame beside an item is the whole period at the item's place; beside the others stands none
+abbrev pub FrameWhole : List ℕ → Item → Type 0
+FrameWhole bytes (Frame p h) = (framePart bytes (Frame p h) ≡ record { start = p; len = 6144 }) × (length (part bytes p) ≡ 6144)
+FrameWhole bytes (Lost p n) = Unit {0}
+FrameWhole bytes (Idle p) = Unit {0}
+FrameWhole bytes (Done p) = Unit {0}

@@ -2,7 +2,7 @@
 -- Assumes nothing.
 use Rattle.places.specs.Places.{meets}
 use Rattle.collision.specs.Collisions.{earlierTo}
-use Rattle.collision.proofs.Seeking.{Sought, hasLater, pair-begins, pair-found, pair-not-yet, no-pair}
+use Rattle.collision.proofs.FirstFound.{Sought, hasLater, pair-begins, pair-found, pair-not-yet, no-pair}
 use Prim.Native.Nat.{_-_}
 use borrow.Author.Needs.{needs}
 use Rattle.collision.proofs.two_meet.Statement.{statement}

@@ -1,4 +1,4 @@
-use Rattle.encoded.proofs.Tables.{parts}
+use Rattle.encoded.proofs.EntryBytes.{parts}
 use borrow.Author.Tests.{eq-eqb, ne-eqb}
 use borrow.Author.Needs.{needs}
 use Rattle.encoded.proofs.put_answer.Statement.{statement}

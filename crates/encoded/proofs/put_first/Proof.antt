@@ -2,7 +2,7 @@ use native.Mathlib.Omega.{arith}
 use lib.ListN.{length-set}
 use mathlib.Core.List.{[], _∷_}
 use Rattle.octets.proofs.Storing.{stores, alone, low-byte}
-use Rattle.encoded.proofs.Tables.{digit-alone}
+use Rattle.encoded.proofs.EntryBytes.{digit-alone}
 use borrow.Author.Needs.{needs}
 use Rattle.encoded.proofs.put_first.Statement.{statement}
 use Rattle.encoded.proofs.put_first.Tie as tie

@@ -2,7 +2,7 @@ use native.Mathlib.Omega.{arith}
 use lib.ListN.{length-set}
 use mathlib.Core.List.{[], _∷_}
 use Rattle.octets.proofs.Storing.{stores, alone, low-byte}
-use Rattle.encoded.proofs.Tables.{sort-alone}
+use Rattle.encoded.proofs.EntryBytes.{sort-alone}
 use borrow.Author.Needs.{needs}
 use Rattle.encoded.proofs.put_second.Statement.{statement}
 use Rattle.encoded.proofs.put_second.Tie as tie

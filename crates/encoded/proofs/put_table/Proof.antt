@@ -9,7 +9,7 @@ use lib.Seq.{take-all}
 use Rattle.octets.specs.Stores.{put}
 use Rattle.octets.proofs.Storing.{put-none}
 use Rattle.encoded.specs.AnswerBytes.{tableBytes}
-use Rattle.encoded.proofs.Tables.{table-more}
+use Rattle.encoded.proofs.EntryBytes.{table-more}
 use Rattle.encoded.proofs.put_table.Statement.{statement}
 use Rattle.encoded.proofs.put_table.Tie as tie
 

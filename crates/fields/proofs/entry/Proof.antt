@@ -1,6 +1,6 @@
 use mathlib.Core.Path.{_∙_}
 use native.Mathlib.Omega.{arith}
-use Rattle.fields.proofs.Beyond.{stream-beyond}
+use Rattle.fields.proofs.BeyondBytes.{stream-beyond}
 use Rattle.frame.specs.Frame.{streamOf}
 use borrow.Author.Needs.{needs}
 use Rattle.fields.proofs.entry.Statement.{statement}

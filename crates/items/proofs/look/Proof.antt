@@ -1,4 +1,4 @@
-use Rattle.items.proofs.Passing.{looked}
+use Rattle.items.proofs.OnePass.{looked}
 use borrow.Author.Needs.{needs}
 use Rattle.items.proofs.look.Statement.{statement}
 use Rattle.items.proofs.look.Tie as tie

@@ -2,7 +2,7 @@ use mathlib.Core.List.{List}
 use mathlib.Core.Path.{subst}
 use Prim.Native.Nat.{ℕ}
 use Rattle.items.specs.PassNotes.{LooksAt}
-use Rattle.items.proofs.Passing.{take-rest}
+use Rattle.items.proofs.OnePass.{take-rest}
 use borrow.Author.Needs.{needs}
 use Rattle.items.proofs.look_at.Statement.{statement}
 use Rattle.items.proofs.look_at.Tie as tie

@@ -2,7 +2,7 @@ use Prim.Native.Nat.{_-_}
 use native.Mathlib.Omega.{arith}
 use lib.ListN.{length}
 use borrow.Author.Needs.{needs}
-use Rattle.items.proofs.Passing.{Midway, midway-start, inside, midway-more, pass-broken, pass-done}
+use Rattle.items.proofs.OnePass.{Midway, midway-start, inside, midway-more, pass-broken, pass-done}
 use Rattle.items.proofs.pass.Statement.{statement}
 use Rattle.items.proofs.pass.Tie as tie
 

@@ -1,4 +1,4 @@
-use Rattle.items.proofs.Passing.{value-taken}
+use Rattle.items.proofs.OnePass.{value-taken}
 use borrow.Author.Needs.{needs}
 use Rattle.items.proofs.value.Statement.{statement}
 use Rattle.items.proofs.value.Tie as tie

@@ -7,7 +7,7 @@ use borrow.Author.Needs.{needs}
 use lib.ListN.{length, take, length-take}
 use lib.Seq.{take-all}
 use Rattle.sum.specs.Sum.{ones, after, sumOf}
-use Rattle.sum.proofs.Laws.{inverse}
+use Rattle.sum.proofs.SumLaws.{inverse}
 use Rattle.stretch.proofs.Stretching.{whole}
 use Rattle.ring.proofs.many.Statement.{statement}
 use Rattle.ring.proofs.many.Tie as tie

@@ -7,7 +7,7 @@ use borrow.Author.Needs.{needs}
 use lib.ListN.{length, take}
 use lib.Seq.{take-add}
 use Rattle.sum.specs.Sum.{Register, after}
-use Rattle.sum.proofs.Laws.{after-append}
+use Rattle.sum.proofs.SumLaws.{after-append}
 use Rattle.ring.specs.Ring.{owed, Same}
 use Rattle.ring.proofs.rounds.Statement.{statement}
 use Rattle.ring.proofs.rounds.Tie as tie

@@ -6,7 +6,7 @@ use borrow.Author.Needs.{needs}
 use lib.ListN.{length, length-take}
 use lib.Seq.{take-all}
 use Rattle.sum.specs.Sum.{ones, after, sumOf}
-use Rattle.sum.proofs.Laws.{inverse}
+use Rattle.sum.proofs.SumLaws.{inverse}
 use Rattle.ring.proofs.sum.Statement.{statement}
 use Rattle.ring.proofs.sum.Tie as tie
 

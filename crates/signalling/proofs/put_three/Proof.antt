@@ -1,6 +1,6 @@
 use mathlib.Core.List.{_++_}
 use mathlib.Core.Path.{refl}
-use Rattle.signalling.proofs.Pairs.{pair-then}
+use Rattle.signalling.proofs.PairsStored.{pair-then}
 use Rattle.sum.specs.Sum.{sent}
 use borrow.Author.Needs.{needs}
 use Rattle.signalling.proofs.put_three.Statement.{statement}

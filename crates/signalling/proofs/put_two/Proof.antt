@@ -1,5 +1,5 @@
 use mathlib.Core.Path.{refl}
-use Rattle.signalling.proofs.Pairs.{pair-put, pair-then}
+use Rattle.signalling.proofs.PairsStored.{pair-put, pair-then}
 use Rattle.sum.specs.Sum.{sent}
 use borrow.Author.Needs.{needs}
 use Rattle.signalling.proofs.put_two.Statement.{statement}

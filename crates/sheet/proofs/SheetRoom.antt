@@ -10,8 +10,7 @@ use lib.Dec.{eqb, leb}
 use lib.ListN.{length, getD, replicate}
 use Rattle.octets.specs.Choice.{pick}
 use Rattle.log.specs.declared.Entry.{Entry}
-use Rattle.log.specs.Log.{allowed}
-use Rattle.log.proofs.Accepted.{AllAllowed}
+use Rattle.log.specs.Log.{allowed, AllAllowed}
 use Rattle.sheet.specs.declared.Sheet.{Sheet}
 use Rattle.sheet.specs.Sheets.{fctsOf, isFrame, missing, billion, gaps, metAfter, lastAfter, runBy, added, sheetOf, allAtMost, runGoesOn, goesOn, totalsTo}
 use Rattle.sheet.proofs.Gaps.{missing-le, run-room}
