@@ -16,12 +16,22 @@ use Rattle.log.specs.declared.Entry.{Entry}
 unfoldable pub lostCode : ℕ → Bool
 lostCode c = leb 2 c && (leb c 10 && not (eqb c 4))
 
--- ALLOWED: kind 0 frame: FCT 0 to 249, level 0 to 3; otherwise level FF: kind 1 lost: its refusal; kind 2 idle: 4
+-- the kinds
+abbrev pub frameKind : ℕ
+frameKind = 0
+
+abbrev pub lostKind : ℕ
+lostKind = 1
+
+abbrev pub idleKind : ℕ
+idleKind = 2
+
+-- ALLOWED: of a frame FCT 0 to 249, level 0 to 3; otherwise level FF, and of a lost mark its refusal, of idle 4
 unfoldable pub allowed : ℕ → ℕ → ℕ → Bool
 allowed kind code level =
-    pick (eqb kind 0)
+    pick (eqb kind frameKind)
     (leb code 249 && leb level 3)
-    (eqb level 0xFF && pick (eqb kind 1) (lostCode code) (eqb kind 2 && eqb code 4))
+    (eqb level 0xFF && pick (eqb kind lostKind) (lostCode code) (eqb kind idleKind && eqb code 4))
 
 abbrev pub allowedEntry : Entry → Bool
 allowedEntry e = allowed (e .kind) (e .code) (e .level)

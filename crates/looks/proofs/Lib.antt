@@ -1,3 +1,4 @@
 pub mod Bounds
+pub mod Counting
 pub mod Tallies
 pub mod Apart

@@ -3,7 +3,7 @@
 use Prim.Native.Nat.{ℕ, zero, suc, _+_, _-_, _*_, _≤_, _<_}
 use mathlib.Core.Path.{_≡_, refl, sym, ap, subst, _∙_}
 use mathlib.Core.Bool.{true, false, and-false}
-use mathlib.Core.List.{List}
+use mathlib.Core.List.{List, [], _∷_}
 use native.Mathlib.Omega.{arith}
 use lib.Dec.{lit<, eqb}
 use lib.ListN.{length}
@@ -16,7 +16,7 @@ use Rattle.walk.proofs.Limits.{allowed-is, number-allowed, number-outside}
 use Rattle.walk.proofs.Stepping.{unconfirmed, no-second, as-locked, as-hunting}
 use Rattle.looks.specs.declared.Counted.the-variants.{Tests, Refused}
 use Rattle.looks.specs.declared.Tally.{Tally}
-use Rattle.looks.specs.Testing.{testsAt, testsFrom, testsOf, countedWith}
+use Rattle.looks.specs.Testing.{testsAt, testsFrom, testsOf, CountsTests}
 use Rattle.looks.specs.CountClauses.{tally, Counts}
 use Rattle.looks.proofs.Bounds.{tests-live, tests-none, most-tests}
 
@@ -177,13 +177,11 @@ module _ (limit : ℕ) (bytes : List ℕ) where
 
 -- ---- the answer
 module _ (limit : ℕ) (bytes : List ℕ) (n : ℕ) (e : n ≡ limitRefusalOf limit) where
-  pub answer-refused : (n ≡ 0 → ⊥) → Refused n ≡ countedWith limit bytes
-  unfolding countedWith
-  answer-refused f = rw (number-outside limit (λ z. f (e ∙ z))) (ap (λ (k : ℕ). Refused k) e)
+  pub answer-refused : (n ≡ 0 → ⊥) → CountsTests limit bytes (Refused n)
+  answer-refused f = record { number = e; values = rw (number-outside limit (λ z. f (e ∙ z))) refl }
 
-  pub answer-tests : n ≡ 0 → (t : ℕ) → t ≡ testsOf limit bytes → Tests t ≡ countedWith limit bytes
-  unfolding countedWith
-  answer-tests z t w = rw (number-allowed limit (sym e ∙ z)) (ap (λ (k : ℕ). Tests k) w)
+  pub answer-tests : n ≡ 0 → (t : ℕ) → t ≡ testsOf limit bytes → CountsTests limit bytes (Tests t)
+  answer-tests z t w = record { number = sym z ∙ e; values = rw (number-allowed limit (sym e ∙ z)) (ap (λ (k : ℕ). k ∷ []) w) }
 
   pub positive : n ≡ 0 → 0 < limit
   positive z = allowed-is limit (number-allowed limit (sym e ∙ z)) .0

@@ -3,6 +3,7 @@
 use Prim.Native.Nat.{ℕ, _+_}
 use mathlib.Core.Bool.{true, false, _&&_}
 use mathlib.Core.List.{List, [], _∷_}
+use mathlib.Core.Path.{_≡_}
 use Rattle.octets.specs.Choice.{pick}
 use Rattle.frame.specs.declared.Header.{Header}
 use Rattle.walk.specs.declared.Position.{Position}
@@ -27,9 +28,19 @@ testsFrom R s = testsIn R (looks R s)
 unfoldable pub testsOf : ℕ → List ℕ → ℕ
 testsOf m bytes = testsFrom (judged m bytes) begin
 
--- the answer: 27 for a limit outside 1 to 8, otherwise the count
-unfoldable pub countedWith : ℕ → List ℕ → Counted
-countedWith m bytes = pick (allowed m) (Tests (testsOf m bytes)) (Refused (limitRefusalOf m))
+-- an answer's number, 0 for a count, and its values: the number of tests, none for refused
+abbrev pub countedNumber : Counted → ℕ
+countedNumber (Tests n) = 0
+countedNumber (Refused n) = n
+
+abbrev pub countedValues : Counted → List ℕ
+countedValues (Tests n) = n ∷ []
+countedValues (Refused n) = []
+
+-- the answer r: 27 for a limit outside 1 to 8, otherwise the count
+pub record CountsTests (m : ℕ) (bytes : List ℕ) (r : Counted) : Type 0 where
+  pub number : countedNumber r ≡ limitRefusalOf m
+  pub values : countedValues r ≡ pick (allowed m) (testsOf m bytes ∷ []) []
 
 -- judged places of which each stands, all with one sync word, so that none is ever confirmed: the most tests that any judging can ask for
 unfoldable pub allAlike : ℕ → ℕ → (ℕ → Header) → Judged

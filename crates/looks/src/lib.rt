@@ -5,7 +5,7 @@ ghost use Prim.Native.Nat.{ℕ, _+_, _≤_, _<_};
 ghost use lib.ListN.{length};
 ghost use Rattle.walk.specs.Walk.{confirmed, hunting, locked};
 ghost use Rattle.walk.specs.Records.{judged};
-ghost use Rattle.looks.specs.Testing.{testsOf, countedWith};
+ghost use Rattle.looks.specs.Testing.{testsOf, CountsTests};
 ghost use Rattle.looks.specs.CountClauses.{tally, Stands, Counts};
 use walk::Position;
 
@@ -141,7 +141,7 @@ fn tests(bytes: &[u8], limit: usize) -> usize
 
 // How many times the walk over a record, with a limit of misses, puts the acceptance test to a place; 27 for a limit outside 1 to 8.
 pub fn count(bytes: &[u8], limit: usize) -> Counted
-    ensures { λ r. ⌜ r ≡ countedWith limit (now (bytes .entry)) ⌝ }
+    ensures { λ r. ⌜ CountsTests limit (now (bytes .entry)) r ⌝ }
 {
     let refusal = walk::limit_refusal(limit);
     if refusal != 0 {

@@ -17,12 +17,12 @@ use Rattle.frame.specs.Rules.{Rule, _when_, first, rulesOf, refusalOf, Acceptab
 use Rattle.frame.specs.Answers.{headerFor}
 use Rattle.frame.proofs.Places.{status-placed}
 use Rattle.trips.proofs.ReadWritable.{level-le}
-use Rattle.log.specs.Log.{allowed, allowedEntry, lostCode, writingRefusalOf}
+use Rattle.log.specs.Log.{frameKind as loggedFrame, lostKind as loggedLost, idleKind as loggedIdle, allowed, allowedEntry, lostCode, writingRefusalOf}
 use Rattle.log.proofs.Accepted.{both}
 use Rattle.walk.specs.declared.Item.{Item}
 use Rattle.walk.specs.declared.Item.the-variants.{Frame, Lost, Idle, Done}
 use Rattle.walk.specs.declared.State.{State}
-use Rattle.walk.specs.ItemValues.{kindOf, doneKind}
+use Rattle.walk.specs.ItemValues.{frameKind, lostKind, idleKind, doneKind, kindOf}
 use Rattle.walk.specs.Records.{part, stepAt}
 use Rattle.walk.specs.Truth.{ItemTrue}
 use Rattle.walk.proofs.Truth.{step-true}
@@ -55,14 +55,18 @@ module _ (bytes : List ℕ) (p : ℕ) (fits : p + 6144 ≤ length bytes) where
       let q = numbered 2 10 (later (part bytes p)) refl (λ y. z (e ∙ one ∙ y)) in
       rw (e, one) q
 
-frame-allowed : (f : List ℕ) (h : Header) → Acceptable f → h ≡ headerFor f → allowed 0 (h .fct) (h .level) ≡ true
+frame-allowed : (f : List ℕ) (h : Header) → Acceptable f → h ≡ headerFor f → allowed loggedFrame (h .fct) (h .level) ≡ true
 unfolding allowed headerFor levelOf
 frame-allowed f h a e =
     rw (e, le-leb (fctOf f) 249 (a .counted)) (le-leb (levelOf f) 3 (level-le (placeIn statuses (errOf f)) (eqb (sumOf (mainOf f)) (mainSumOf f)) (status-placed (errOf f) (a .status))))
 
-lost-allowed : (n : ℕ) → (2 ≤ n) × (n ≤ 10) → (n ≡ 4 → ⊥) → allowed 1 n 0xFF ≡ true
+lost-allowed : (n : ℕ) → (2 ≤ n) × (n ≤ 10) → (n ≡ 4 → ⊥) → allowed loggedLost n 0xFF ≡ true
 unfolding allowed lostCode
 lost-allowed n (a, b) c = rw (le-leb 2 n a, le-leb n 10 b, ne-eqb n 4 c)
+
+-- the log's kinds are the walk's
+pub same-kinds : (loggedFrame ≡ frameKind) × (loggedLost ≡ lostKind) × (loggedIdle ≡ idleKind)
+same-kinds = (refl, refl, refl)
 
 -- done is refused, wherever it is said
 pub done-refused : (p : ℕ) → writingRefusalOf (entryOf (Done p)) 16 ≡ 29

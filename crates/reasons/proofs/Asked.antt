@@ -17,6 +17,7 @@ use Rattle.why.specs.declared.Answer.{Answer}
 use Rattle.why.specs.declared.Answer.the-variants.{Because, Not}
 use Rattle.why.specs.declared.Reason.{Reason}
 use Rattle.why.specs.Why.{reasonNumber, refusalGiven, placeGiven, whyRefusalOf, Answers}
+use Rattle.why.proofs.Answering.{because-is, refusing-is}
 use Rattle.why.proofs.Reasons.{only-reason, positive}
 use Rattle.reasons.specs.WhyBytes.{whyBytes, whyLentRefusal, Asks}
 
@@ -53,15 +54,13 @@ module _ (bytes : List ℕ) (limit place : ℕ) (was : List ℕ) (k : ℕ) (e : 
       same = rw (ok, eq-eqb (length was) 10 whole)
 
       pub asks-refused : (n : ℕ) → t ≡ Not n → Asks bytes limit place was was n
-      unfolding Answers
       asks-refused n q =
-          let b : Answers bytes limit place (Not n) = subst (Answers bytes limit place) q a in
+          let b = refusing-is bytes limit place n (subst (Answers bytes limit place) q a) in
           record { number = b .0 ∙ same; given = λ y. absurd (b .1 y); refused = λ g. refl }
 
       pub asks-given : (x : Reason) → t ≡ Because x → (left : List ℕ) → left ≡ whyBytes x → Asks bytes limit place was left 0
-      unfolding Answers
       asks-given x q left p =
-          let b : Answers bytes limit place (Because x) = subst (Answers bytes limit place) q a in
+          let b = because-is bytes limit place x (subst (Answers bytes limit place) q a) in
           record { number = sym (b .0) ∙ same; given = λ y. record { reason = x; applies = b .1; answer = p }; refused = λ g. absurd (g refl) }
 
 -- ONE OUTCOME: two results that meet the statement are equal, number and bytes

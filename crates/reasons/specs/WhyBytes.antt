@@ -10,17 +10,14 @@ use Rattle.frame.specs.Rules.{_when_, first}
 use Rattle.walk.specs.Records.{allowed}
 use Rattle.encoded.specs.AnswerBytes.{encode}
 use Rattle.why.specs.declared.Reason.{Reason}
-use Rattle.why.specs.Why.{Applies, reasonNumber, refusalGiven, placeGiven}
+use Rattle.why.specs.Why.{Applies, reasonValues}
 
 -- a reason's ten bytes: its number, the refusal number that it gives, and the place of the item before it
 abbrev pub whyCounts : List ℕ
 whyCounts = 1 ∷ 1 ∷ 8 ∷ []
 
-abbrev pub whyValues : Reason → List ℕ
-whyValues x = reasonNumber x ∷ refusalGiven x ∷ placeGiven x ∷ []
-
 unfoldable pub whyBytes : Reason → List ℕ
-whyBytes x = encode whyCounts (whyValues x)
+whyBytes x = encode whyCounts (reasonValues x)
 
 -- 27 first, as wherever there is a limit; then 1 for answer bytes of another length; then 34
 unfoldable pub whyLentRefusal : List ℕ → ℕ → ℕ → ℕ → ℕ

@@ -10,7 +10,7 @@ use Rattle.octets.specs.Choice.{pick}
 use Rattle.sum.specs.Sum.{digit}
 use Rattle.frame.specs.Rules.{Rule, _when_, first}
 use Rattle.log.specs.declared.Entry.{Entry}
-use Rattle.log.specs.Log.{recordsIn, entriesOf, firstBad, logRulesOf}
+use Rattle.log.specs.Log.{frameKind, lostKind, idleKind, recordsIn, entriesOf, firstBad, logRulesOf}
 use Rattle.sheet.specs.declared.Run.{Run}
 use Rattle.sheet.specs.declared.Sheet.{Sheet}
 
@@ -21,13 +21,13 @@ count t (e ∷ es) = digit (t e) + count t es
 
 -- ---- the tests: a frame, one at a level; a lost mark, one of a refusal number; idle
 abbrev pub isFrame : Entry → Bool
-isFrame e = eqb (e .kind) 0
+isFrame e = eqb (e .kind) frameKind
 
 abbrev pub isLost : Entry → Bool
-isLost e = eqb (e .kind) 1
+isLost e = eqb (e .kind) lostKind
 
 abbrev pub isIdle : Entry → Bool
-isIdle e = eqb (e .kind) 2
+isIdle e = eqb (e .kind) idleKind
 
 abbrev pub frameAt : ℕ → Entry → Bool
 frameAt level e = isFrame e && eqb (e .level) level
@@ -37,7 +37,7 @@ lostBy refusal e = isLost e && eqb (e .code) refusal
 
 -- ---- the sixteen totals: row 0 to 3 frames at that level, row 4 + n lost marks of refusal n, row 15 idle
 unfoldable pub rowBy : ℕ → ℕ → ℕ → ℕ
-rowBy kind code level = pick (eqb kind 0) level (pick (eqb kind 1) (4 + code) 15)
+rowBy kind code level = pick (eqb kind frameKind) level (pick (eqb kind lostKind) (4 + code) 15)
 
 abbrev pub inRow : ℕ → Entry → Bool
 inRow k e = eqb (rowBy (e .kind) (e .code) (e .level)) k

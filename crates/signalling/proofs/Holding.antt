@@ -18,7 +18,7 @@ use Rattle.signalling.specs.declared.Step.{Step}
 use Rattle.signalling.specs.Feeding.{Took, giving, run, rest}
 use Rattle.signalling.specs.Groups.{Frame, Gathering, Gathered, group, sofar, outOfTurn, gather, groups, gathering}
 use Rattle.signalling.specs.Messages.{kindOf, Strung, shut, Handed, string, items, stringing}
-use Rattle.signalling.specs.OnNumbers.{bufferBy, outItem, afreshBy, joinBy, wholeBy, stepBy, stepBuffer, beginning}
+use Rattle.signalling.specs.OnNumbers.{itemValues, bufferBy, outItem, afreshBy, joinBy, wholeBy, stepBy, stepBuffer, beginning}
 use Rattle.signalling.specs.GroupClauses.{Stepping}
 use Rattle.signalling.specs.Following.{shown, gatheringOf, Strings, Holds, withMore, Follows, Steps, Begins, Calls}
 use Rattle.signalling.proofs.Fed.{giving-then, run-snoc, rest-snoc}
@@ -113,13 +113,14 @@ module _ (s : State) (fp mnsc : ℕ) (l : List ℕ) where
   pub refuses : length l < 1538 → Steps s fp mnsc l (record { item = Refused 1; state = s }) l
   refuses h =
       let t = lt-ltb (length l) 1538 h in
-      record { step = rw t; buffer = rw t; follows = λ seen k. absurd (omega (arith, k .room)) }
+      record { item = rw t; state = rw t; buffer = rw t; follows = λ seen k. absurd (omega (arith, k .room)) }
 
   pub steps-on : (r : Step) (after : List ℕ) → 1538 ≤ length l → Stepping (s .group) (s .message) fp mnsc l r after → Steps s fp mnsc l r after
   steps-on r after h k =
       let t = le-ltb (length l) 1538 h in
       record {
-        step = k .step ∙ rw t;
+        item = ap (λ (q : Step). itemValues (q .item)) (k .step) ∙ rw t;
+        state = ap (λ (q : Step). q .state) (k .step) ∙ rw t;
         buffer = k .buffer ∙ rw t;
         follows = λ seen q. follows seen (record { fp = fp; mnsc = mnsc }) s l r after q (k .step) (k .buffer);
       }

@@ -4,3 +4,4 @@ pub mod Fed
 pub mod Stringing
 pub mod Holding
 pub mod GroupTaken
+pub mod StepFixed

@@ -18,7 +18,7 @@ use Rattle.signalling.specs.declared.Step.{Step}
 use Rattle.signalling.specs.Feeding.{giving}
 use Rattle.signalling.specs.Groups.{Frame, Gathering, gathering}
 use Rattle.signalling.specs.Messages.{Strung, shut, opened, Handed, message, dropped, typeOf, grNb, groupBytes, messageBytes, items, stringing}
-use Rattle.signalling.specs.OnNumbers.{stepBy, stepBuffer, placeOf, beginning}
+use Rattle.signalling.specs.OnNumbers.{itemValues, stepBy, stepBuffer, placeOf, beginning}
 
 -- the bytes of the group so far
 abbrev pub gatheringOf : Group → Gathering
@@ -63,7 +63,8 @@ pub record Follows (seen : List Frame) (f : Frame) (r : Step) (l : List ℕ) : T
 
 -- a step from s that is lent the buffer l: a buffer shorter than the longest message is refused with 1, and nothing is changed
 pub record Steps (s : State) (fp mnsc : ℕ) (l : List ℕ) (r : Step) (after : List ℕ) : Type 0 where
-  pub step : r ≡ pick (ltb (length l) 1538) (record { item = Refused 1; state = s }) (stepBy s fp mnsc)
+  pub item : itemValues (r .item) ≡ itemValues (pick (ltb (length l) 1538) (Refused 1) (stepBy s fp mnsc .item))
+  pub state : r .state ≡ pick (ltb (length l) 1538) s (stepBy s fp mnsc .state)
   pub buffer : after ≡ pick (ltb (length l) 1538) l (stepBuffer s fp mnsc l)
   pub follows : (seen : List Frame) → Holds (gathering seen) (stringing seen) s l → Follows seen (record { fp = fp; mnsc = mnsc }) r after
 

@@ -1,7 +1,7 @@
 -- One outcome for each state, also for one that no frames lead to: the step on the state's numbers, and the buffer after it.
 -- Assumes nothing.
 use mathlib.Core.Bool.{Bool, true, false, _&&_}
-use mathlib.Core.List.{List, _++_}
+use mathlib.Core.List.{List, [], _∷_, _++_}
 use Prim.Native.Nat.{ℕ, _+_, _-_, _*_, _%_}
 use lib.Dec.{eqb, ltb}
 use lib.ListN.{take}
@@ -14,10 +14,36 @@ use Rattle.signalling.specs.declared.Group.{Group}
 use Rattle.signalling.specs.declared.Opened.{Opened}
 use Rattle.signalling.specs.declared.State.{State}
 use Rattle.signalling.specs.declared.Item.{Item}
-use Rattle.signalling.specs.declared.Item.the-variants.{Nothing, Message, Drop}
+use Rattle.signalling.specs.declared.Item.the-variants.{Nothing, Message, Drop, Refused}
 use Rattle.signalling.specs.declared.Taken.{Taken}
 use Rattle.signalling.specs.declared.Step.{Step}
 use Rattle.signalling.specs.Messages.{SB, kindOf, closingSum, endBytes, startBytes, continuationBytes}
+
+-- an item's values: its kind, its number (a message's type, a drop's number, a refused call's), a message's length
+abbrev pub itemKind : Item → ℕ
+itemKind Nothing = 0
+itemKind (Message type n) = 1
+itemKind (Drop n) = 2
+itemKind (Refused n) = 3
+
+abbrev pub itemNumber : Item → ℕ
+itemNumber Nothing = 0
+itemNumber (Message type n) = type
+itemNumber (Drop n) = n
+itemNumber (Refused n) = n
+
+abbrev pub itemLength : Item → ℕ
+itemLength Nothing = 0
+itemLength (Message type n) = n
+itemLength (Drop n) = 0
+itemLength (Refused n) = 0
+
+abbrev pub itemValues : Item → List ℕ
+itemValues x = itemKind x ∷ itemNumber x ∷ itemLength x ∷ []
+
+-- the item of its values
+abbrev pub itemBy : ℕ → ℕ → ℕ → Item
+itemBy kind number n = pick (eqb kind 0) Nothing (pick (eqb kind 1) (Message number n) (pick (eqb kind 2) (Drop number) (Refused number)))
 
 -- the word of the sum's register after these bytes more
 unfoldable pub fed : ℕ → List ℕ → ℕ

@@ -16,6 +16,7 @@ use Rattle.signalling.specs.OnNumbers.{stepBy, stepBuffer, beginning}
 use Rattle.signalling.specs.Following.{Steps, Holds, shown, withMore}
 use Rattle.signalling.proofs.Fed.{giving-then}
 use Rattle.signalling.proofs.Holding.{steps-on, begins}
+use Rattle.signalling.proofs.StepFixed.{is-step}
 use Rattle.signals.specs.SignalBytes.{stateAt, itemAt, signalRefusal, Accepted, leftBy, Signalled, SignalCalls}
 use Rattle.signals.specs.SignalClauses.{Left}
 use Rattle.signals.proofs.SignalBack.{none-holds, zero-begins-signal}
@@ -30,7 +31,7 @@ pub given : (fp mnsc : ℕ) (w l : List ℕ) (s : State) (r : Step) (w′ l′ :
     → Steps s fp mnsc l r l′ → Left (r .item) (r .state) w′ → Signalled fp mnsc w l 0 w′ l′
 given fp mnsc w l s r w′ l′ z long e t k =
     let long-enough = le-ltb (length l) 1538 long in
-    let step : r ≡ stepBy (stateAt w) fp mnsc = t .step ∙ rw (long-enough, e) in
+    let step : r ≡ stepBy (stateAt w) fp mnsc = is-step s fp mnsc l r l′ t long ∙ (rw e) in
     let buffer : l′ ≡ stepBuffer (stateAt w) fp mnsc l = t .buffer ∙ rw (long-enough, e) in
     let zero = eq-eqb (signalRefusal w l) 0 z in
     record {

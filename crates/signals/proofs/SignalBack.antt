@@ -17,8 +17,8 @@ use Rattle.signalling.specs.declared.Group.{Group}
 use Rattle.signalling.specs.declared.Opened.{Opened}
 use Rattle.signalling.specs.declared.State.{State}
 use Rattle.signalling.specs.declared.Item.{Item}
-use Rattle.signalling.specs.declared.Item.the-variants.{Nothing, Message, Drop, Refused}
 use Rattle.signalling.specs.OnNumbers.{beginning}
+use Rattle.signalling.proofs.StepFixed.{item-by}
 use Rattle.signals.specs.SignalBytes.{itemKind, itemNumber, itemLength, groupWidths, groupValues, messageWidths, messageValues, signalBytes, groupIn, messageIn, stateAt, itemBy, itemAt, signalRefusal, Accepted}
 use Rattle.signals.specs.SignalClauses.{Left}
 
@@ -42,12 +42,6 @@ message-back m kind number h =
     let e = split-join messageWidths (messageValues m kind number) h in
     ap (λ (vs : List ℕ). record { on = eqb (getD vs 0 0) 1; kind = getD vs 1 0; grnb = getD vs 2 0; count = getD vs 3 0; crc = getD vs 4 0 }) e
     ∙ ap (λ (b : Bool). record { on = b; kind = m .kind; grnb = m .grnb; count = m .count; crc = m .crc }) (bit-back (m .on))
-
-item-by : (x : Item) → itemBy (itemKind x) (itemNumber x) (itemLength x) ≡ x
-item-by Nothing = refl
-item-by (Message type n) = refl
-item-by (Drop n) = refl
-item-by (Refused n) = refl
 
 -- ---- which refusal
 module _ (w l : List ℕ) where

@@ -13,32 +13,13 @@ use Rattle.signalling.specs.declared.Group.{Group}
 use Rattle.signalling.specs.declared.Opened.{Opened}
 use Rattle.signalling.specs.declared.State.{State}
 use Rattle.signalling.specs.declared.Item.{Item}
-use Rattle.signalling.specs.declared.Item.the-variants.{Nothing, Message, Drop, Refused}
 use Rattle.signalling.specs.declared.Step.{Step}
 use Rattle.signalling.specs.Feeding.{giving}
 use Rattle.signalling.specs.Groups.{Frame}
 use Rattle.signalling.specs.Messages.{Handed}
+pub use Rattle.signalling.specs.OnNumbers.{itemKind, itemNumber, itemLength, itemBy}
 use Rattle.signalling.specs.OnNumbers.{stepBy, stepBuffer}
 use Rattle.signalling.specs.Following.{shown}
-
--- an item: its kind, its number (a message's type, a drop's number), a message's length
-abbrev pub itemKind : Item → ℕ
-itemKind Nothing = 0
-itemKind (Message type n) = 1
-itemKind (Drop n) = 2
-itemKind (Refused n) = 3
-
-abbrev pub itemNumber : Item → ℕ
-itemNumber Nothing = 0
-itemNumber (Message type n) = type
-itemNumber (Drop n) = n
-itemNumber (Refused n) = n
-
-abbrev pub itemLength : Item → ℕ
-itemLength Nothing = 0
-itemLength (Message type n) = n
-itemLength (Drop n) = 0
-itemLength (Refused n) = 0
 
 -- bytes 0 to 7, widths in bits: the phase due, waiting, and the three pairs
 abbrev pub groupWidths : List ℕ
@@ -76,9 +57,6 @@ messageIn w = record { on = eqb (messageField w 0) 1; kind = messageField w 1; g
 
 unfoldable pub stateAt : List ℕ → State
 stateAt w = record { group = groupIn (eightAt w 0); message = messageIn (eightAt w 8) }
-
-abbrev pub itemBy : ℕ → ℕ → ℕ → Item
-itemBy kind number n = pick (eqb kind 0) Nothing (pick (eqb kind 1) (Message number n) (pick (eqb kind 2) (Drop number) (Refused number)))
 
 unfoldable pub itemAt : List ℕ → Item
 itemAt w = itemBy (messageField (eightAt w 8) 5) (messageField (eightAt w 8) 6) (eightAt w 16)

@@ -1,3 +1,4 @@
+pub mod Beginning
 pub mod ByRules
 pub mod Ending
 pub mod Examples

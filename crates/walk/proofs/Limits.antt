@@ -7,13 +7,12 @@ use mathlib.Core.List.{List}
 use native.Mathlib.Omega.{arith}
 use lib.Dec.{leb}
 use borrow.Author.Tests.{le-leb, lt-leb, leb-true}
-use Rattle.walk.specs.declared.Begun.{Begun}
 use Rattle.walk.specs.declared.Begun.the-variants.{Walk, Refused}
 use Rattle.walk.specs.declared.Moved.{Moved}
 use Rattle.walk.specs.declared.State.{State}
 use Rattle.walk.specs.declared.Step.{Step}
 use Rattle.walk.specs.Walk.{Position, Done, begin, stepOf}
-use Rattle.walk.specs.Records.{judged, Allowed, allowed, limitRefusalOf, within, begunWith, stepWith, stepAt}
+use Rattle.walk.specs.Records.{judged, Allowed, allowed, limitRefusalOf, within, walkValues, Begins, stepWith, stepAt}
 use Rattle.walk.specs.StepClauses.{movedWith, movedAt}
 use Rattle.walk.proofs.ByRules.{and-left, and-right}
 
@@ -57,13 +56,12 @@ module _ (m : ℕ) where
   pub number-outside : (limitRefusalOf m ≡ 0 → ⊥) → allowed m ≡ false
   number-outside f = by-limit m _ (λ e. absurd (f (sym (just-right (allowed-is m e))))) (λ e. e)
 
-  pub begun-walk : limitRefusalOf m ≡ 0 → (p : Position) → p ≡ begin → _≡_ {A = Begun} (Walk (record { limit = m; position = p })) (begunWith m)
-  unfolding begunWith
-  begun-walk z p e = rw (number-allowed z) (λ i. Walk (within m (e i)))
+  -- what the code hands back
+  pub begun-walk : limitRefusalOf m ≡ 0 → (p : Position) → p ≡ begin → Begins m (Walk (record { limit = m; position = p }))
+  begun-walk z p e = record { number = sym z; values = rw (number-allowed z) (ap (λ (q : Position). walkValues (within m q)) e) }
 
-  pub begun-refused : (n : ℕ) → n ≡ limitRefusalOf m → (n ≡ 0 → ⊥) → _≡_ {A = Begun} (Refused n) (begunWith m)
-  unfolding begunWith
-  begun-refused n e f = rw (number-outside (λ z. f (e ∙ z))) (ap (λ (k : ℕ). Refused k) e)
+  pub begun-refused : (n : ℕ) → n ≡ limitRefusalOf m → (n ≡ 0 → ⊥) → Begins m (Refused n)
+  begun-refused n e f = record { number = e; values = rw (number-outside (λ z. f (e ∙ z))) refl }
 
 module _ (bytes : List ℕ) where
   pub step-is : (m : ℕ) → allowed m ≡ true → (p : Position) → stepAt bytes (within m p) ≡ stepWith bytes (stepOf (judged m bytes) p .item) (within m (stepOf (judged m bytes) p .walk))

@@ -10,7 +10,7 @@ use Rattle.frame.specs.declared.Stream.{Stream}
 use Rattle.frame.specs.Frame.{streamsOf}
 use Rattle.frame.specs.Rules.{_when_, first, refusalOf}
 use Rattle.octets.specs.Choice.{pick}
-use Rattle.frame.specs.Answers.{tableBy, headerFor}
+use Rattle.frame.specs.Answers.{digit, tableBy, headerFor}
 pub use Rattle.periods.specs.Periods.{part, fsync1At, NoneStands}
 use Rattle.walk.specs.declared.Item.{Item}
 use Rattle.walk.specs.declared.Item.the-variants.{Frame, Lost, Idle, Done}
@@ -66,9 +66,23 @@ within m p = record { limit = m; position = p }
 abbrev pub start : ℕ → State
 start m = within m begin
 
+-- a walk's values: its limit, its place, its misses, and whether it is in lock
+abbrev pub walkValues : State → List ℕ
+walkValues s = s .limit ∷ s .position .place ∷ s .position .misses ∷ digit (s .position .lock) ∷ []
+
+-- of what beginning a walk hands back its number, 0 for a walk, and its values, none for refused
+abbrev pub begunNumber : Begun → ℕ
+begunNumber (Walk s) = 0
+begunNumber (Refused n) = n
+
+abbrev pub begunValues : Begun → List ℕ
+begunValues (Walk s) = walkValues s
+begunValues (Refused n) = []
+
 -- what beginning a walk with limit m hands back
-unfoldable pub begunWith : ℕ → Begun
-begunWith m = pick (allowed m) (Walk (start m)) (Refused (limitRefusalOf m))
+pub record Begins (m : ℕ) (r : Begun) : Type 0 where
+  pub number : begunNumber r ≡ limitRefusalOf m
+  pub values : begunValues r ≡ pick (allowed m) (walkValues (start m)) []
 
 -- what a step hands back: the item, its table, the advanced walk
 unfoldable pub stepWith : List ℕ → Item → State → Step

@@ -6,7 +6,7 @@ ghost use lib.ListN.{length};
 ghost use Rattle.frame.specs.Rules.{refusalOf};
 ghost use Rattle.frame.specs.Answers.{Reads};
 ghost use Rattle.walk.specs.Walk.{Lost, Idle, Done, confirmed, locked, hunting};
-ghost use Rattle.walk.specs.Records.{part, judged, frameIn, limitRefusalOf, begunWith, stepAt};
+ghost use Rattle.walk.specs.Records.{part, judged, frameIn, limitRefusalOf, Begins, stepAt};
 ghost use Rattle.walk.specs.StepClauses.{Missed, movedWith, movedAt};
 use frame::Answer;
 use frame::Header;
@@ -242,7 +242,7 @@ pub fn limit_refusal(limit: usize) -> u8
 
 // The walk at its beginning, hunting at place 0.
 pub fn begin(limit: usize) -> Begun
-    ensures { λ r. ⌜ r ≡ begunWith limit ⌝ }
+    ensures { λ r. ⌜ Begins limit r ⌝ }
 {
     let refusal = limit_refusal(limit);
     if refusal != 0 {

@@ -1,6 +1,6 @@
 -- A walk begun: its number, its state and the part that it holds, by the limit.
 -- Assumes nothing.
-use mathlib.Core.Bool.{true, false}
+use mathlib.Core.Bool.{false}
 use mathlib.Core.List.{List}
 use mathlib.Core.Path.{_≡_, refl, sym, ap, _∙_}
 use Prim.Native.Nat.{ℕ, _-_}
@@ -11,32 +11,25 @@ use Rattle.walk.specs.declared.Begun.the-variants.{Walk, Refused}
 use Rattle.walk.specs.declared.State.{State}
 use Rattle.walk.specs.declared.Step.{Step}
 use Rattle.walk.specs.declared.Item.the-variants.{Done}
-use Rattle.walk.specs.Records.{allowed, limitRefusalOf, start, begunWith, stepWith, stepAt}
-use Rattle.walk.proofs.Limits.{allowed-is, just-right, by-limit, number-allowed, number-outside, step-outside}
+use Rattle.walk.specs.Records.{allowed, limitRefusalOf, start, Begins, stepWith, stepAt}
+use Rattle.walk.proofs.Beginning.{is-begun, is-refused}
+use Rattle.walk.proofs.Limits.{allowed-is, just-right, number-allowed, number-outside, step-outside}
 use Rattle.walker.specs.Advance.{noPart, heldPart, startOf}
 use Rattle.walker.specs.NthClauses.{beginning}
 use Rattle.walker.specs.declared.Beginning.{Beginning}
 
-module _ (m : ℕ) (r : Begun) (e : r ≡ begunWith m) where
+module _ (m : ℕ) (r : Begun) (b : Begins m r) where
   pub begun-state : (s : State) → r ≡ Walk s → _≡_ {A = Beginning} (record { number = 0; state = s }) (beginning m)
-  unfolding begunWith startOf
-  begun-state s q = by-limit m _ inside (λ d. let y : Walk s ≡ Refused (limitRefusalOf m) = sym q ∙ e ∙ (rw d) in absurd (let z : _≡_ {A = ℕ} 0 1 = cc in omega arith))
-    where
-      inside : allowed m ≡ true → _≡_ {A = Beginning} (record { number = 0; state = s }) (beginning m)
-      inside d =
-          let y : Walk s ≡ Walk (start m) = sym q ∙ e ∙ (rw d) in
-          let x : s ≡ start m = cc in
-          rw d (λ i. record { number = just-right m (allowed-is m d) i; state = x i })
+  unfolding startOf
+  begun-state s q =
+      let (d, x) = is-begun m r b s q in
+      rw d (λ i. record { number = just-right m (allowed-is m d) i; state = x i })
 
   pub begun-outside : (n : ℕ) → r ≡ Refused n → _≡_ {A = Beginning} (record { number = n; state = start 0 }) (beginning m)
-  unfolding begunWith startOf
-  begun-outside n q = by-limit m _ (λ d. let y : Refused n ≡ Walk (start m) = sym q ∙ e ∙ (rw d) in absurd (let z : _≡_ {A = ℕ} 0 1 = cc in omega arith)) outside
-    where
-      outside : allowed m ≡ false → _≡_ {A = Beginning} (record { number = n; state = start 0 }) (beginning m)
-      outside d =
-          let y : Refused n ≡ Refused (limitRefusalOf m) = sym q ∙ e ∙ (rw d) in
-          let x : n ≡ limitRefusalOf m = cc in
-          rw d (λ i. record { number = x i; state = start 0 })
+  unfolding startOf
+  begun-outside n q =
+      let (d, x) = is-refused m r b n q in
+      rw d (λ i. record { number = x i; state = start 0 })
 
 module _ (m : ℕ) (bytes : List ℕ) (n : ℕ) (e : n ≡ limitRefusalOf m) where
   pub held-whole : n ≡ 0 → heldPart m bytes ≡ record { start = 0; len = length bytes }

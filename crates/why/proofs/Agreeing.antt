@@ -1,7 +1,7 @@
--- The reasons agree with what calls of the step hand out, one after another; and there is one answer to each question.
+-- The reasons agree with what calls of the step hand out, one after another.
 -- Assumes nothing.
 use Prim.Native.Nat.{ℕ, zero, suc, _+_, _-_, _≤_, _<_}
-use mathlib.Core.Path.{_≡_, refl, sym, ap, ap₂, subst, _∙_}
+use mathlib.Core.Path.{_≡_, refl, ap, ap₂, _∙_}
 use mathlib.Core.Bool.{true}
 use mathlib.Core.List.{List, [], _∷_, _++_, map, List·Memᴰ, List·Memᴰ·head, List·Memᴰ·tail, List·Memᴰ·cases-cons, List·Memᴰ·not-nil}
 use mathlib.Core.Logic.{_⊎_, inl, inr}
@@ -17,12 +17,9 @@ use Rattle.walk.specs.ItemValues.{kindOf}
 use Rattle.walk.specs.Records.{judged, allowed, within, start, stepWith, stepAt, callsAt}
 use Rattle.walk.proofs.Ending.{calls-end}
 use Rattle.walk.proofs.Limits.{step-is}
-use Rattle.why.specs.declared.Reason.{Reason}
 use Rattle.why.specs.declared.Reason.the-variants.{HandedOut, Lost}
-use Rattle.why.specs.declared.Answer.{Answer}
-use Rattle.why.specs.declared.Answer.the-variants.{Because, Not}
-use Rattle.why.specs.Why.{OutAt, Applies, itemsAt, Answers}
-use Rattle.why.proofs.Reasons.{only-reason, positive, handed-is-out, lost-is-mark}
+use Rattle.why.specs.Why.{OutAt, Applies, itemsAt}
+use Rattle.why.proofs.Reasons.{handed-is-out, lost-is-mark}
 
 -- ---- what a list with more behind it has
 in-front : {A : Type 0} (x : A) (xs ys : List A) → List·Memᴰ x xs → List·Memᴰ x (xs ++ ys)
@@ -87,11 +84,3 @@ module _ (bytes : List ℕ) (limit place n : ℕ) (ok : allowed limit ≡ true) 
   -- LOST exactly where they hand out a lost mark, with that number
   pub lost-called : (k : ℕ) → (Applies bytes limit place (Lost k) → List·Memᴰ (LostMark place k) (itemsAt bytes n (start limit))) × (List·Memᴰ (LostMark place k) (itemsAt bytes n (start limit)) → Applies bytes limit place (Lost k))
   lost-called k = (λ a. there (LostMark place k) (lost-is-mark bytes limit place k .0 a), λ m. lost-is-mark bytes limit place k .1 (here (LostMark place k) (omega arith) m))
-
--- ONE ANSWER: two answers to a question are equal, so the function's reason is the one that applies
-pub answer-fixed : (bytes : List ℕ) (limit place : ℕ) (a b : Answer) → Answers bytes limit place a → Answers bytes limit place b → a ≡ b
-unfolding Answers
-answer-fixed bytes limit place (Because r) (Because t) (z, a) (_, b) = ap (λ (x : Reason). Because x) (only-reason (judged limit bytes) (positive bytes limit place) place begin r t a b)
-answer-fixed bytes limit place (Because r) (Not n) (z, _) (e, f) = absurd (f (e ∙ z))
-answer-fixed bytes limit place (Not n) (Because r) (e, f) (z, _) = absurd (f (e ∙ z))
-answer-fixed bytes limit place (Not n) (Not m) (e, _) (d, _) = ap (λ (x : ℕ). Not x) (e ∙ sym d)

@@ -15,16 +15,17 @@ use Rattle.walk.specs.declared.Position.{Position}
 use Rattle.walk.specs.declared.State.{State}
 use Rattle.walk.specs.declared.Step.{Step}
 use Rattle.walk.specs.Walk.{looks, begin, stepOf}
-use Rattle.walk.specs.Records.{part, judged, Allowed, allowed, limitRefusalOf, within, start, begunWith, stepWith, stepAt}
-use Rattle.walk.proofs.Limits.{allowed-is, by-limit, step-is}
+use Rattle.walk.specs.Records.{part, judged, Allowed, allowed, limitRefusalOf, within, start, Begins, stepWith, stepAt}
+use Rattle.walk.proofs.Beginning.{is-begun, is-refused}
+use Rattle.walk.proofs.Limits.{allowed-is, step-is}
 use Rattle.why.specs.declared.Reason.{Reason}
 use Rattle.why.specs.declared.Reason.the-variants.{Refused, NotStanding, SameSync}
-use Rattle.why.specs.declared.Answer.{Answer}
 use Rattle.why.specs.declared.Answer.the-variants.{Because, Not}
 use Rattle.why.specs.declared.Found.{Found}
 use Rattle.why.specs.declared.Found.the-variants.{Hunted, At, Later}
 use Rattle.why.specs.Why.{followed, Applies, whyRefusalOf, Answers}
 use Rattle.why.specs.WhyClauses.{huntedFor, Says, Asked}
+use Rattle.why.proofs.Answering.{because, refusing}
 use Rattle.why.proofs.Covers.{Fresh, clash}
 use Rattle.why.proofs.Reasons.{fair}
 use Rattle.why.proofs.Seeking.{Onto, True, widen, step-tells}
@@ -114,31 +115,26 @@ module _ (bytes : List ℕ) (m p : ℕ) (s : State) (o : Reached bytes m p s) (r
     goes-further q = onto q .moves
 
 -- ---- the answer
-module _ (bytes : List ℕ) (limit place : ℕ) where
-  module _ (b : Begun) (e : b ≡ begunWith limit) where
-    pub not-begun : (n : ℕ) → b ≡ NotBegun n → Answers bytes limit place (Not n)
-    unfolding Answers whyRefusalOf begunWith limitRefusalOf
-    not-begun n q =
-        by-limit limit _
-        (λ y. let d : begunWith limit ≡ Walk (start limit) = rw y in let z : _≡_ {A = ℕ} 0 1 = cc in absurd (omega arith))
-        (λ y. let d : begunWith limit ≡ NotBegun 27 = rw y in let z : n ≡ 27 = cc in rw (y, z) (refl, λ x. omega arith))
+module _ (bytes : List ℕ) (limit place : ℕ) (b : Begun) (w : Begins limit b) where
+  pub not-begun : (n : ℕ) → b ≡ NotBegun n → Answers bytes limit place (Not n)
+  unfolding whyRefusalOf limitRefusalOf
+  not-begun n q =
+      let (y, e) = is-refused limit b w n q in
+      let z : n ≡ 27 = e ∙ (rw y) in
+      refusing bytes limit place n (z ∙ (rw y)) (λ x. omega arith)
 
-    module _ (s : State) (q : b ≡ Walk s) where
-      begun : (allowed limit ≡ true) × (s ≡ start limit)
-      unfolding begunWith
-      begun =
-          by-limit limit _
-          (λ y. let d : begunWith limit ≡ Walk (start limit) = rw y in (y, cc))
-          (λ y. let d : begunWith limit ≡ NotBegun (limitRefusalOf limit) = rw y in let z : _≡_ {A = ℕ} 0 1 = cc in absurd (omega arith))
+  module _ (s : State) (q : b ≡ Walk s) where
+    begun : (allowed limit ≡ true) × (s ≡ start limit)
+    begun = is-begun limit b w s q
 
-      pub outside : length bytes < place + 6144 → Answers bytes limit place (Not 34)
-      unfolding Answers whyRefusalOf
-      outside h = (rw (begun .0, lt-ltb (length bytes) (place + 6144) h), λ x. omega arith)
+    pub outside : length bytes < place + 6144 → Answers bytes limit place (Not 34)
+    unfolding whyRefusalOf
+    outside h = refusing bytes limit place 34 (rw (begun .0, lt-ltb (length bytes) (place + 6144) h)) (λ x. omega arith)
 
-      pub asked : place + 6144 ≤ length bytes → Asked bytes s place
-      asked h = let w = begun .1 in record { patient = rw w (begun .0); begins = ap (λ (t : State). t .position) w; room = h }
+    pub asked : place + 6144 ≤ length bytes → Asked bytes s place
+    asked h = let e = begun .1 in record { patient = rw e (begun .0); begins = ap (λ (t : State). t .position) e; room = h }
 
-      pub answered : place + 6144 ≤ length bytes → (r : Reason) → Applies bytes (s .limit) place r → Answers bytes limit place (Because r)
-      unfolding Answers whyRefusalOf
-      answered h r a =
-          (rw (begun .0, le-ltb (length bytes) (place + 6144) h), subst (λ (t : State). Applies bytes (t .limit) place r) (begun .1) a)
+    pub answered : place + 6144 ≤ length bytes → (r : Reason) → Applies bytes (s .limit) place r → Answers bytes limit place (Because r)
+    unfolding whyRefusalOf
+    answered h r a =
+        because bytes limit place r (rw (begun .0, le-ltb (length bytes) (place + 6144) h)) (subst (λ (t : State). Applies bytes (t .limit) place r) (begun .1) a)

@@ -1,3 +1,4 @@
+pub mod Answering
 pub mod Agreeing
 pub mod Asking
 pub mod Covers

@@ -88,11 +88,6 @@ Applies bytes limit place r = AppliesIn (judged limit bytes) place (looks (judge
 unfoldable pub whyRefusalOf : List ℕ → ℕ → ℕ → ℕ
 whyRefusalOf bytes limit place = first ((27 when not (allowed limit)) ∷ (34 when ltb (length bytes) (place + 6144)) ∷ [])
 
--- what is answered: the reason that applies, or the refusal
-unfoldable pub Answers : List ℕ → ℕ → ℕ → Answer → Type 0
-Answers bytes limit place (Because r) = (whyRefusalOf bytes limit place ≡ 0) × Applies bytes limit place r
-Answers bytes limit place (Not n) = (n ≡ whyRefusalOf bytes limit place) × (n ≡ 0 → ⊥)
-
 -- A REASON'S NUMBERS
 
 -- of its case
@@ -121,3 +116,27 @@ placeGiven (Refused n) = 0
 placeGiven NotStanding = 0
 placeGiven SameSync = 0
 placeGiven (SteppedOver q) = q
+
+abbrev pub reasonValues : Reason → List ℕ
+reasonValues r = reasonNumber r ∷ refusalGiven r ∷ placeGiven r ∷ []
+
+-- AN ANSWER: its number, 0 where there is a reason, and its values, none where it is refused
+abbrev pub answerNumber : Answer → ℕ
+answerNumber (Because r) = 0
+answerNumber (Not n) = n
+
+abbrev pub answerValues : Answer → List ℕ
+answerValues (Because r) = reasonValues r
+answerValues (Not n) = []
+
+-- they are the values of a reason that applies
+pub record Reasoned (bytes : List ℕ) (limit place : ℕ) (values : List ℕ) : Type 0 where
+  pub reason : Reason
+  pub applies : Applies bytes limit place reason
+  pub same : values ≡ reasonValues reason
+
+-- what is answered: the refusal, or the reason that applies
+pub record Answers (bytes : List ℕ) (limit place : ℕ) (a : Answer) : Type 0 where
+  pub number : answerNumber a ≡ whyRefusalOf bytes limit place
+  pub reasoned : whyRefusalOf bytes limit place ≡ 0 → Reasoned bytes limit place (answerValues a)
+  pub refused : (whyRefusalOf bytes limit place ≡ 0 → ⊥) → answerValues a ≡ []
