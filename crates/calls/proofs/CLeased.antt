@@ -18,7 +18,7 @@ use Rattle.homeward.specs.WayBack.{backRefusal, Returns}
 use Rattle.line.specs.NetworkOut.{logicalLength, withFrame, frameRefusal, SendsFrame}
 use Rattle.line.proofs.FrameOut.{lengths-asked}
 use Rattle.remade.specs.ReadAlike.{ReadAlike}
-use Rattle.remade.specs.Remaking.{MakesFrame, Own}
+use Rattle.remade.specs.Remaking.{MakesFrame}
 use Rattle.remade.proofs.Again.{same-reading, same-frame}
 use Rattle.lines.specs.LinesBoundary.{variantRefusal, widthBy, isOther}
 use Rattle.calls.specs.LineTrips.{Trip, Lengths, Sendable}
@@ -80,15 +80,12 @@ module _ (variant choice level : ℕ) (f : List ℕ) (t : Trip variant choice le
   makes : MakesFrame (eqb variant 5376) (isOther choice) level (t .parts .information) (t .frameRoom) (t .made) (t .remade)
   makes = let n = t .frame .number in record { number = rw (g .known) at n; bytes = t .frame .bytes }
 
-  own : Own f (isOther choice) level
-  own = record { status = g .status; sync = g .sync }
-
   -- READ ALIKE: all three calls answer 0, and the frame made is read with the same fields, entries, FIC and streams, whatever its padding was
   pub trip-alike : (t .sent ≡ 0) × (t .returned ≡ 0) × (t .remade ≡ 0) × ReadAlike f (t .made)
   trip-alike =
-      let a = same-reading (eqb variant 5376) f _ _ _ _ _ _ _ sends out-goes (isOther choice) level _ _ _ _ _ _ (g .bytes) own (g .within) returns back-goes (l .frame) makes in
+      let a = same-reading (eqb variant 5376) f _ _ _ _ _ _ _ sends out-goes (isOther choice) level _ _ _ _ _ _ (g .bytes) (g .own) (g .within) returns back-goes (l .frame) makes in
       (out-goes, back-goes, a .0, a .1)
 
   -- and where its padding was 55, it is the same 6,144 bytes
   pub trip-same : drop (carriedBy (flOf f)) f ≡ replicate (6144 - carriedBy (flOf f)) 0x55 → t .made ≡ f
-  trip-same e = same-frame (eqb variant 5376) f _ _ _ _ _ _ _ sends out-goes (isOther choice) level _ _ _ _ _ _ (g .bytes) own (g .within) returns back-goes (l .frame) makes e .1
+  trip-same e = same-frame (eqb variant 5376) f _ _ _ _ _ _ _ sends out-goes (isOther choice) level _ _ _ _ _ _ (g .bytes) (g .own) (g .within) returns back-goes (l .frame) makes e .1

@@ -4,13 +4,13 @@ use mathlib.Core.List.{List, []}
 use mathlib.Core.Path.{_≡_}
 use Prim.Native.Nat.{ℕ, _≤_}
 use lib.ListN.{length}
-use Rattle.frame.specs.Frame.{statusBy, fsyncBy, errOf, fsyncOf}
 use Rattle.frame.specs.Rules.{refusalOf}
 use Rattle.frame.specs.Writing.{Bytes}
 use Rattle.array.specs.CodingArray.{Parts, lent}
 use Rattle.array.specs.PartLengths.{Sized}
 use Rattle.line.specs.NetworkOut.{logicalLength}
-use Rattle.lines.specs.LinesBoundary.{digit, variantRefusal, widthBy, isOther, LineOut, LineBack, LineFrame}
+use Rattle.remade.specs.Remaking.{Own}
+use Rattle.lines.specs.LinesBoundary.{variantRefusal, widthBy, isOther, LineOut, LineBack, LineFrame}
 
 -- THE THREE CALLS: what each is lent, what it leaves there, and what it answers
 pub record Trip (variant choice level : ℕ) (f : List ℕ) : Type 0 where
@@ -51,6 +51,5 @@ pub record Sendable (variant choice level : ℕ) (f : List ℕ) : Type 0 where
   pub accepted : refusalOf f ≡ 0
   pub known : variantRefusal variant ≡ 0
   pub carried : logicalLength f ≤ variant
-  pub sync : fsyncBy (digit (isOther choice)) ≡ fsyncOf f
-  pub status : statusBy level ≡ errOf f
+  pub own : Own f (isOther choice) level
   pub within : level ≤ 3

@@ -1,1 +1,2 @@
 pub mod Collisions
+pub mod CollisionClauses

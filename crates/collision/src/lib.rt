@@ -1,8 +1,9 @@
 // Which streams the profile's number is about: the first one or the first two, in table order.
 ghost use mathlib.Core.Path.{_≡_};
 ghost use Prim.Native.Nat.{_<_};
-ghost use Rattle.places.specs.Places.{sameScid, unsized, beyond, meets};
-ghost use Rattle.collision.specs.Collisions.{oneTo, laterTo, pairTo, twoBy, FindsStreams};
+ghost use Rattle.collision.specs.Collisions.{oneTo, laterTo, aloneTo, pairTo, twoBy, FindsStreams};
+ghost use Rattle.collision.specs.CollisionClauses.{oneBy, bothBy};
+use places::Place;
 
 // Two streams of the table, or one twice.
 pub struct Two {
@@ -16,12 +17,33 @@ pub struct Collision {
     pub two: Two,
 }
 
-fn first_unsized(frame: &[u8], n: u8) -> u8
-    ensures { λ r. ⌜ r ≡ oneTo unsized (now (frame .entry)) n ⌝ }
+// What 31 and 32 say of one stream: its protection has no size, or it has a unit beyond 863.
+fn of_one(number: u8, p: Place) -> bool
+    ensures { λ r. ⌜ r ≡ oneBy number p ⌝ }
+{
+    if number == 31 {
+        return places::is_unsized(p);
+    }
+    places::is_beyond(p)
+}
+
+// What 30 and 33 say of two: they have one SCID, or a unit in common.
+fn of_two(number: u8, a: Place, b: Place) -> bool
+    ensures { λ r. ⌜ r ≡ bothBy number a b ⌝ }
+{
+    if number == 30 {
+        return places::same(a, b);
+    }
+    places::meet(a, b)
+}
+
+// The first stream that the number is about.
+fn one_by(frame: &[u8], number: u8, n: u8) -> u8
+    ensures { λ r. ⌜ r ≡ oneTo (oneBy number) (now (frame .entry)) n ⌝ }
 {
     let mut i: u8 = 0;
     while i < n {
-        if places::is_unsized(places::placed(frame, i as usize)) {
+        if of_one(number, places::placed(frame, i as usize)) {
             return i;
         }
         i += 1;
@@ -29,28 +51,15 @@ fn first_unsized(frame: &[u8], n: u8) -> u8
     n
 }
 
-fn first_beyond(frame: &[u8], n: u8) -> u8
-    ensures { λ r. ⌜ r ≡ oneTo beyond (now (frame .entry)) n ⌝ }
-{
-    let mut i: u8 = 0;
-    while i < n {
-        if places::is_beyond(places::placed(frame, i as usize)) {
-            return i;
-        }
-        i += 1;
-    }
-    n
-}
-
-// The first stream behind stream i that has its SCID.
-fn later_same(frame: &[u8], i: u8, n: u8) -> u8
+// The first stream behind stream i that the number is about with it.
+fn later_by(frame: &[u8], number: u8, i: u8, n: u8) -> u8
     requires { ⌜ i < n ⌝ }
-    ensures { λ r. ⌜ r ≡ laterTo sameScid (now (frame .entry)) n i ⌝ }
+    ensures { λ r. ⌜ r ≡ laterTo (bothBy number) (now (frame .entry)) n i ⌝ }
 {
     let mine = places::placed(frame, i as usize);
     let mut j = i + 1;
     while j < n {
-        if places::same(mine, places::placed(frame, j as usize)) {
+        if of_two(number, mine, places::placed(frame, j as usize)) {
             return j;
         }
         j += 1;
@@ -58,28 +67,12 @@ fn later_same(frame: &[u8], i: u8, n: u8) -> u8
     n
 }
 
-// The first stream behind stream i that has a unit of its.
-fn later_meets(frame: &[u8], i: u8, n: u8) -> u8
-    requires { ⌜ i < n ⌝ }
-    ensures { λ r. ⌜ r ≡ laterTo meets (now (frame .entry)) n i ⌝ }
-{
-    let mine = places::placed(frame, i as usize);
-    let mut j = i + 1;
-    while j < n {
-        if places::meet(mine, places::placed(frame, j as usize)) {
-            return j;
-        }
-        j += 1;
-    }
-    n
-}
-
-fn two_same(frame: &[u8], n: u8) -> Two
-    ensures { λ r. ⌜ r ≡ pairTo sameScid (now (frame .entry)) n ⌝ }
+fn pair_by(frame: &[u8], number: u8, n: u8) -> Two
+    ensures { λ r. ⌜ r ≡ pairTo (bothBy number) (now (frame .entry)) n ⌝ }
 {
     let mut i: u8 = 0;
     while i < n {
-        let j = later_same(frame, i, n);
+        let j = later_by(frame, number, i, n);
         if j < n {
             return Two {
                 first: i,
@@ -94,23 +87,13 @@ fn two_same(frame: &[u8], n: u8) -> Two
     }
 }
 
-fn two_meet(frame: &[u8], n: u8) -> Two
-    ensures { λ r. ⌜ r ≡ pairTo meets (now (frame .entry)) n ⌝ }
+fn alone_by(frame: &[u8], number: u8, n: u8) -> Two
+    ensures { λ r. ⌜ r ≡ aloneTo (oneBy number) (now (frame .entry)) n ⌝ }
 {
-    let mut i: u8 = 0;
-    while i < n {
-        let j = later_meets(frame, i, n);
-        if j < n {
-            return Two {
-                first: i,
-                second: j,
-            };
-        }
-        i += 1;
-    }
+    let i = one_by(frame, number, n);
     Two {
-        first: n,
-        second: n,
+        first: i,
+        second: i,
     }
 }
 
@@ -118,24 +101,16 @@ fn two_by(frame: &[u8], number: u8, n: u8) -> Two
     ensures { λ r. ⌜ r ≡ twoBy number (now (frame .entry)) n ⌝ }
 {
     if number == 30 {
-        return two_same(frame, n);
+        return pair_by(frame, number, n);
     }
     if number == 31 {
-        let i = first_unsized(frame, n);
-        return Two {
-            first: i,
-            second: i,
-        };
+        return alone_by(frame, number, n);
     }
     if number == 32 {
-        let i = first_beyond(frame, n);
-        return Two {
-            first: i,
-            second: i,
-        };
+        return alone_by(frame, number, n);
     }
     if number == 33 {
-        return two_meet(frame, n);
+        return pair_by(frame, number, n);
     }
     Two {
         first: 0,

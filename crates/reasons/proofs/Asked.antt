@@ -17,7 +17,7 @@ use Rattle.why.specs.declared.Answer.{Answer}
 use Rattle.why.specs.declared.Answer.the-variants.{Because, Not}
 use Rattle.why.specs.declared.Reason.{Reason}
 use Rattle.why.specs.Why.{reasonNumber, refusalGiven, placeGiven, whyRefusalOf, Answers}
-use Rattle.why.proofs.Answering.{because-is, refusing-is}
+use Rattle.why.proofs.AnswersFixed.{because-is, refusing-is}
 use Rattle.why.proofs.Reasons.{only-reason, positive}
 use Rattle.reasons.specs.WhyBytes.{whyBytes, whyLentRefusal, Asks}
 

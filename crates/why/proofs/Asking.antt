@@ -25,7 +25,7 @@ use Rattle.why.specs.declared.Found.{Found}
 use Rattle.why.specs.declared.Found.the-variants.{Hunted, At, Later}
 use Rattle.why.specs.Why.{followed, Applies, whyRefusalOf, Answers}
 use Rattle.why.specs.WhyClauses.{huntedFor, Says, Asked}
-use Rattle.why.proofs.Answering.{because, refusing}
+use Rattle.why.proofs.AnswersFixed.{because, refusing}
 use Rattle.why.proofs.Covers.{Fresh, clash}
 use Rattle.why.proofs.Reasons.{fair}
 use Rattle.why.proofs.Seeking.{Onto, True, widen, step-tells}

@@ -1,4 +1,4 @@
-pub mod Answering
+pub mod AnswersFixed
 pub mod Agreeing
 pub mod Asking
 pub mod Covers

@@ -6,16 +6,16 @@ use Rattle.collision.proofs.two_by.Statement.{statement}
 use Rattle.collision.proofs.two_by.Tie as tie
 
 returns : tie.Need-returns
-returns c = by-30 _ _ _ _ (c .before .if1 .taken) (c .two-same .ensures)
+returns c = by-30 _ _ _ _ (c .before .if1 .taken) (c .pair-by .ensures)
 
 returns-2 : tie.Need-returns-2
-returns-2 c = by-31 _ _ _ _ (c .before .if2 .taken) (c .first-unsized .ensures)
+returns-2 c = by-31 _ _ _ _ (c .before .if2 .taken) (c .alone-by .ensures)
 
 returns-3 : tie.Need-returns-3
-returns-3 c = by-32 _ _ _ _ (c .before .if3 .taken) (c .first-beyond .ensures)
+returns-3 c = by-32 _ _ _ _ (c .before .if3 .taken) (c .alone-by2 .ensures)
 
 returns-4 : tie.Need-returns-4
-returns-4 c = by-33 _ _ _ _ (c .before .if4 .taken) (c .two-meet .ensures)
+returns-4 c = by-33 _ _ _ _ (c .before .if4 .taken) (c .pair-by2 .ensures)
 
 returns-5 : tie.Need-returns-5
 returns-5 c = by-other _ _ _ (c .before .before .before .if1 .left) (c .before .before .if2 .left) (c .before .if3 .left) (c .if4 .left)
