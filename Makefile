@@ -30,7 +30,7 @@ target/example/line: examples/line.c include/spindlewren.h $(shell find crates c
 command: target/command/spindlewren
 	@echo "$(CURDIR)/target/command/spindlewren"
 
-target/command/spindlewren: Makefile $(wildcard command/*) include/spindlewren.h tools/library $(shell find crates crates.txt -type f)
+target/command/spindlewren: Makefile $(wildcard command/* include/*) tools/library $(shell find crates crates.txt -type f)
 	@mkdir -p target/command
 	@$(CC) -std=c99 -O2 -Wall -Wextra -Wpedantic -Werror -DVERSION='"$(VERSION)"' -Iinclude command/*.c "$$(tools/library)" -o $@
 
