@@ -1,5 +1,5 @@
 # make run: lists a record, samples/four.eti or RECORD=file. make example: the same from C. make line-example: the same of a live line, from standard input. make test: the gate.
-# make command: the command spindlewren, for engineers. make install PREFIX=..: command, headers, static library, pkg-config file and manual page; make uninstall.
+# make command: the command spindlewren, for engineers. make install PREFIX=..: command, headers, static library, pkg-config file, manual page and BOUNDARY.md; make uninstall.
 # make rows: the bench figures. make soak: a gigabyte through a pipe, then the comparison with the Rust implementation for SECONDS, from SEED on. make bench: times.
 .PHONY: run rows example line-example command install uninstall soak bench test
 RECORD = samples/four.eti
@@ -7,13 +7,13 @@ SECONDS = 600
 SEED = $(shell date +%s)
 
 run:
-	@tools/run listing <$(RECORD)
+	@tools/run listing <"$(RECORD)"
 
 rows:
 	@for program in rows answers writes; do tools/run $$program || exit 1; done
 
 example: target/example/controller
-	@target/example/controller $(RECORD)
+	@target/example/controller "$(RECORD)"
 
 target/example/controller: examples/controller.c include/spindlewren.h $(shell find crates crates.txt -type f)
 	@mkdir -p target/example
@@ -30,7 +30,7 @@ target/example/line: examples/line.c include/spindlewren.h $(shell find crates c
 command: target/command/spindlewren
 	@echo "$(CURDIR)/target/command/spindlewren"
 
-target/command/spindlewren: Makefile $(wildcard command/*) include/spindlewren.h tools/library $(shell find crates crates.txt -type f)
+target/command/spindlewren: Makefile $(wildcard command/* include/*) tools/library $(shell find crates crates.txt -type f)
 	@mkdir -p target/command
 	@$(CC) -std=c99 -O2 -Wall -Wextra -Wpedantic -Werror -DVERSION='"$(VERSION)"' -Iinclude command/*.c "$$(tools/library)" -o $@
 
@@ -39,16 +39,19 @@ VERSION = 1.0
 HEADERS = spindlewren.h spindlewren_boot.h spindlewren_lines.h
 under = $(DESTDIR)$(PREFIX)
 
+# the header names BOUNDARY.md
 install: target/command/spindlewren
-	@mkdir -p $(under)/bin $(under)/include $(under)/lib/pkgconfig $(under)/share/man/man1
-	@install -m 755 target/command/spindlewren $(under)/bin/
-	@install -m 644 $(HEADERS:%=include/%) $(under)/include/
-	@install -m 644 "$$(tools/library)" $(under)/lib/
-	@sed 's|@PREFIX@|$(PREFIX)|; s|@VERSION@|$(VERSION)|' tools/spindlewren.pc >$(under)/lib/pkgconfig/spindlewren.pc
-	@install -m 644 command/spindlewren.1 $(under)/share/man/man1/
+	@mkdir -p "$(under)/bin" "$(under)/include" "$(under)/lib/pkgconfig" "$(under)/share/man/man1" "$(under)/share/doc/spindlewren"
+	@install -m 755 target/command/spindlewren "$(under)/bin/"
+	@install -m 644 $(HEADERS:%=include/%) "$(under)/include/"
+	@install -m 644 "$$(tools/library)" "$(under)/lib/"
+	@sed 's|@PREFIX@|$(PREFIX)|; s|@VERSION@|$(VERSION)|' tools/spindlewren.pc >"$(under)/lib/pkgconfig/spindlewren.pc"
+	@install -m 644 command/spindlewren.1 "$(under)/share/man/man1/"
+	@install -m 644 docs/BOUNDARY.md "$(under)/share/doc/spindlewren/"
 
 uninstall:
-	@rm -f $(under)/bin/spindlewren $(HEADERS:%=$(under)/include/%) $(under)/lib/libspindlewren.a $(under)/lib/pkgconfig/spindlewren.pc $(under)/share/man/man1/spindlewren.1
+	@! cd "$(under)/" 2>/dev/null || rm -f bin/spindlewren $(HEADERS:%=include/%) lib/libspindlewren.a lib/pkgconfig/spindlewren.pc share/man/man1/spindlewren.1 share/doc/spindlewren/BOUNDARY.md
+	@! [ -d "$(under)/share/doc/spindlewren" ] || rmdir "$(under)/share/doc/spindlewren"
 
 soak:
 	@tests/live/gigabyte

@@ -49,6 +49,9 @@ struct verb {
 /* The words behind a verb, put into the request. Ends the command with WRONG_USE where they are not the verb's. */
 void understand(const struct verb *verb, int argc, char **argv, struct request *asked);
 
+/* The options of a verb, or of none all, for help. */
+void tell_options(const struct verb *only);
+
 /* ---- files and walks */
 
 /* A recorded file, or, where it is called -, standard input: a line whose bytes come in pieces, of which few are kept. */
@@ -105,8 +108,8 @@ void fail(const char *file, const char *reason);
 /* .. where the reason is a refusal number. */
 void refuse(const char *file, uint8_t refusal);
 
-/* Ends the command with WRONG_USE: what is wrong, and the word, on standard error. */
-void wrong_use(const char *what, const char *word);
+/* Ends the command with WRONG_USE: what is wrong, as printf has it, on standard error, and whose help tells more, the verb's or, of none, that of all. */
+void wrong_use(const struct verb *verb, const char *what, ...);
 
 /* ---- sheets of logs, for the table and the page */
 

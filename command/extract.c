@@ -4,9 +4,9 @@
 
 #include <string.h>
 
-/* What is taken out, whether lost and idle periods are filled, how many bytes the last frame's part had; and what was met. */
+/* What is taken out, whether lost and idle periods are filled, how many bytes the last frame's part had; and what was met: any frame, and those that have the part. */
 struct taking {
-    int fic;
+    int fic, handed_out;
     size_t fill, stream, last;
     unsigned long long frames, filled, bytes;
 };
@@ -30,6 +30,7 @@ static void take(const uint8_t *frame, uint64_t place, const uint8_t *walk, void
         return;
     }
     refusal = t->fic ? spindlewren_fic(frame, SPINDLEWREN_FRAME, part, sizeof part) : spindlewren_stream(frame, SPINDLEWREN_FRAME, t->stream, part, sizeof part);
+    t->handed_out = 1;
     t->last = refusal == SPINDLEWREN_ACCEPTED ? (size_t)spindlewren_number(part, SPINDLEWREN_LEN, 2) : 0;
     if (refusal != SPINDLEWREN_ACCEPTED) return;
     t->frames++;
@@ -40,7 +41,7 @@ void extract(const struct request *asked) {
     struct taking t = {.fic = strcmp(asked->part, "fic") == 0, .fill = asked->fill};
     if (!t.fic) digits(asked->part, &t.stream);
     each_item(asked, NULL, take, &t);
-    if (t.frames == 0) fail(asked->file, t.fic ? "no frame is handed out" : "no frame handed out has that stream");
+    if (t.frames == 0) fail(asked->file, t.handed_out ? "no frame handed out has that stream" : "no frame is handed out");
     if (!asked->json) return;
     json_begin(stderr);
     json_number("frames", t.frames);

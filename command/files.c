@@ -64,7 +64,7 @@ struct record map(const char *name) {
     file = open(name, O_RDONLY | O_NONBLOCK);
     if (file < 0 || fstat(file, &about) != 0) fail(name, strerror(errno));
     if (S_ISDIR(about.st_mode)) fail(name, strerror(EISDIR));
-    if (!S_ISREG(about.st_mode)) fail(name, "not a regular file");
+    if (!S_ISREG(about.st_mode)) fail(name, "not a regular file (a pipe is read as standard input, FILE -)");
     if ((uintmax_t)about.st_size > SIZE_MAX) fail(name, "too large for this machine");
     if (about.st_size > 0) {
         bytes = mmap(NULL, (size_t)about.st_size, PROT_READ, MAP_PRIVATE, file, 0);

@@ -27,17 +27,11 @@ static void help(const struct verb *only) {
     printf("usage: spindlewren VERB [OPTION ..] FILE ..\n");
     for (i = 0; i < VERBS; i++)
         if (only == NULL || only == &verbs[i]) printf("  spindlewren %s %s\n      %s\n", verbs[i].name, verbs[i].words, verbs[i].help);
-    printf("FILE may be - for standard input: a walk goes by the line as it comes, of any length.\n"
-           "PLACE is a byte's number in the file, from 0 on.\n"
-           "  --limit M    so many lost marks in a row end the lock, 1 to 8; 3 unless given\n"
-           "  --strict     exit status 3 if anything was lost\n"
-           "  --fill       zero bytes for lost and idle periods\n"
-           "  --sync N     the frame's sync word: 0 for 07 3A B6, which is taken unless given, or 1 for F8 C5 49\n"
-           "  --variant V  the information bytes of the line's multiframe: 5592, which is taken unless given, or 5376\n"
-           "  --html       a page to look at\n"
-           "  --json       one JSON object a line; of verbs that write bytes, on standard error, what they wrote\n"
-           "  --help, --version\n"
-           "Exit status: 0 done, 1 could not (the reason is on standard error), 2 wrong use, 3 lost (--strict).\n");
+    printf("FILE may be - for standard input: a walk goes by the line as it comes, of any length.\n");
+    if (only == NULL || only->takes & (TAKES_PLACE | MAY_TAKE_PLACE)) printf("PLACE is a byte's number in the file, from 0 on.\n");
+    tell_options(only);
+    printf("  --help, --version\n"
+           "Exit status: 0 done, 1 could not (the reason is on standard error), 2 wrong use%s.\n", only == NULL || only->takes & TAKES_STRICT ? ", 3 lost (--strict)" : "");
 }
 
 /* Whether a word stands before any --. */
@@ -62,9 +56,9 @@ int main(int argc, char **argv) {
     } else if (given(argc, argv, "--version")) {
         puts("spindlewren " VERSION);
     } else if (argc < 2) {
-        wrong_use("no verb", "");
+        wrong_use(NULL, "no verb");
     } else if (verb == NULL) {
-        wrong_use("no such verb: ", argv[1]);
+        wrong_use(NULL, argv[1][0] == '-' ? "the verb comes first, not %s" : "no such verb: %s", argv[1]);
     } else {
         understand(verb, argc - 2, argv + 2, &asked);
         verb->run(&asked);

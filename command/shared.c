@@ -4,6 +4,7 @@
 
 #include <errno.h>
 #include <signal.h>
+#include <stdarg.h>
 #include <stdio.h>
 #include <stdlib.h>
 #include <string.h>
@@ -22,8 +23,14 @@ void refuse(const char *file, uint8_t refusal) {
     fail(file, reason);
 }
 
-void wrong_use(const char *what, const char *word) {
-    fprintf(stderr, "spindlewren: %s%s\nspindlewren --help tells the verbs and their words\n", what, word);
+void wrong_use(const struct verb *verb, const char *what, ...) {
+    va_list words;
+    fprintf(stderr, "spindlewren: ");
+    va_start(words, what);
+    vfprintf(stderr, what, words);
+    va_end(words);
+    if (verb == NULL) fprintf(stderr, "\nspindlewren --help tells the verbs and their words\n");
+    else fprintf(stderr, "\nspindlewren %s --help tells its words\n", verb->name);
     exit(WRONG_USE);
 }
 

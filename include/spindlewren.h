@@ -1,5 +1,5 @@
-/* Spindlewren: reading and following ETI frames, for a transmitter's controller. docs/BOUNDARY.md has the layouts.
-   tools/library makes one archive of all that is declared here. */
+/* Spindlewren: reading and following ETI frames, for a transmitter's controller. docs/BOUNDARY.md, installed as share/doc/spindlewren/BOUNDARY.md, has the
+   layouts. libspindlewren.a, which make install installs and tools/library makes, has all that is declared here; single archives are for who links less. */
 #ifndef SPINDLEWREN_H
 #define SPINDLEWREN_H
 

@@ -24,8 +24,8 @@ enum {
     SPINDLEWREN_CODING_ROWS = 24
 };
 
-/* Each returns 0, or a refusal's number, and then nothing is written: 12 for another variant, 1 for a part of another length,
-   2 to 10 as spindlewren_read for a frame, 23 for a frame with more bytes than the variant carries. */
+/* Each returns 0, or a refusal's number, and then nothing is written: 12 for another variant, then 1 for a part of another length, then
+   2 to 10 as spindlewren_read for a frame, then 23 for a frame with more bytes than the variant carries. The numbers have names in spindlewren.h. */
 
 /* The output array of a network frame, the parts beside it, and the check bytes of its rows. */
 uint8_t spindlewren_line_out(const uint8_t *frame, size_t frame_len, size_t variant,
@@ -53,10 +53,11 @@ uint8_t spindlewren_line_rows(const uint8_t *output, size_t output_len, size_t v
 uint8_t spindlewren_line_frame(const uint8_t *information, size_t information_len, size_t variant, uint8_t choice, uint8_t level,
                                uint8_t *frame, size_t frame_len);
 
-/* The 5 check bytes of 235 information bytes, or the 14 of 226. */
+/* The 5 check bytes of 235 information bytes, or the 14 of 226; 1 for any other two lengths. */
 uint8_t spindlewren_check_bytes(const uint8_t *information, size_t information_len, uint8_t *check, size_t check_len);
 
-/* Whether a row of 240 bytes, the last 5 or 14 of them check bytes, is clean: 1 or 0 in the one byte lent. */
+/* Whether a row of 240 bytes, the last 5 or 14 of them check bytes, as `check` says, is clean: 1 or 0 in the one byte lent. 1 is returned for
+   another length or another number of check bytes. */
 uint8_t spindlewren_test_row(const uint8_t *row, size_t row_len, size_t check, uint8_t *clean, size_t clean_len);
 
 #ifdef __cplusplus
