@@ -19,6 +19,7 @@ struct request {
     const char *part;
     size_t limit, sync, variant;
     size_t html, fill, strict, json;
+    unsigned given; /* what the options given are taken by */
 };
 
 /* What a verb takes beside a file and --json. */

@@ -55,6 +55,7 @@ static int option(const struct verb *verb, char **words, int left, struct reques
         wrong_use(verb, "not known: %s%s", words[0], words[0][1] == '-' ? "" : "; a file of that name stands behind --");
     if (!has(verb, found)) wrong_use(verb, "%s has no %s", verb->name, found->name);
     to = (size_t *)(void *)((char *)asked + found->at);
+    asked->given |= found->takes;
     if (found->number != NULL && !digits(number, to)) wrong_use(verb, "a number is needed behind %s", found->name);
     if (found->number == NULL) *to = 1;
     return found->number != NULL && words[0][len] != '=' ? 2 : 1;
@@ -83,6 +84,12 @@ static void plain(const struct verb *verb, char *word, struct request *asked) {
     }
 }
 
+/* Whether the verb goes by a walk, as it is asked. */
+static int walks(const struct request *asked, const struct verb *verb) {
+    if (asked->way != NULL) return strcmp(asked->way, "out") == 0;
+    return !asked->placed || !(verb->takes & MAY_TAKE_PLACE);
+}
+
 void understand(const struct verb *verb, int argc, char **argv, struct request *asked) {
     int i = 0;
     asked->files = argv;
@@ -95,6 +102,7 @@ void understand(const struct verb *verb, int argc, char **argv, struct request *
     if (verb->takes & TAKES_PLACE && !asked->placed) wrong_use(verb, "%s needs a file and a place", verb->name);
     if (verb->takes & TAKES_PART && asked->part == NULL) wrong_use(verb, "%s needs a file and a stream's number, or fic", verb->name);
     if (asked->count == 0) wrong_use(verb, "%s needs a file", verb->name);
+    if (asked->given & TAKES_LIMIT && !walks(asked, verb)) wrong_use(verb, "--limit is a walk's, and none begins here");
     if (asked->sync > 1) wrong_use(verb, "--sync is 0 or 1");
     if (asked->variant != 5592 && asked->variant != 5376) wrong_use(verb, "--variant is 5592 or 5376");
     if (asked->html && asked->json) wrong_use(verb, "a page is not JSON: --html and --json");
