@@ -70,12 +70,19 @@ int digits(const char *word, size_t *number) {
 }
 
 char *number_before(char *end, uint64_t n) {
-    /* two digits to a division, which is what takes time */
+    /* four digits to a long division, which is what takes time */
     static const char twos[] = "00010203040506070809101112131415161718192021222324252627282930313233343536373839404142434445464748495051525354555657585960616263646566676869"
                                "707172737475767778798081828384858687888990919293949596979899";
-    for (; n >= 100; n /= 100) memcpy(end -= 2, twos + 2 * (n % 100), 2);
-    if (n >= 10) return memcpy(end - 2, twos + 2 * n, 2);
-    *--end = (char)('0' + n);
+    unsigned rest;
+    for (; n >= 10000; n /= 10000) {
+        rest = (unsigned)(n % 10000);
+        memcpy(end - 4, twos + 2 * (rest / 100), 2);
+        memcpy(end - 2, twos + 2 * (rest % 100), 2);
+        end -= 4;
+    }
+    for (rest = (unsigned)n; rest >= 100; rest /= 100) memcpy(end -= 2, twos + 2 * (rest % 100), 2);
+    if (rest >= 10) return memcpy(end - 2, twos + 2 * rest, 2);
+    *--end = (char)('0' + rest);
     return end;
 }
 
