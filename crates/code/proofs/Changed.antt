@@ -28,7 +28,7 @@ same [] (y ∷ ys) e z = absurd (omega arith)
 same (x ∷ xs) [] e z = absurd (omega arith)
 same (x ∷ xs) (y ∷ ys) e z = ap₂ _∷_ (xor-same x y (z .0)) (same xs ys (omega arith) (z .1))
 
--- two clean rows that differences in at most r bytes are one
+-- two clean rows that differ in at most r bytes are one
 pub clean-same : (r : ℕ) (xs ys : List ℕ) → length xs ≡ length ys → length ys ≤ 255 → Octets xs → Octets ys → differences xs ys ≤ r → isClean r xs ≡ true → isClean r ys ≡ true → xs ≡ ys
 clean-same r xs ys e b o p w c d =
     same xs ys e (distance r (xs ⊞ ys) (rw (length-sum xs ys e) b) (sum-octets xs ys o p) w (clean-sum r xs ys e c d))

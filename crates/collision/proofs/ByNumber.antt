@@ -9,8 +9,7 @@ use Rattle.frame.specs.Frame.{nstOf}
 use Rattle.places.specs.declared.Place.{Place}
 use Rattle.places.specs.Places.{sameScid, unsized, beyond, meets, profileOf}
 use Rattle.collision.specs.declared.Two.{Two}
-use Rattle.collision.specs.declared.Collision.{Collision}
-use Rattle.collision.specs.Collisions.{oneTo, pairTo, aloneTo, twoBy, twoOf, FindsStreams}
+use Rattle.collision.specs.Collisions.{oneTo, pairTo, aloneTo, twoBy, FindsStreams}
 use Rattle.collision.specs.CollisionClauses.{oneBy, bothBy}
 
 module _ (number : ℕ) (r : Bool) (p : Place) where

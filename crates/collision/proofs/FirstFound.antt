@@ -3,14 +3,12 @@
 use mathlib.Core.Bool.{Bool, true, false}
 use mathlib.Core.List.{List}
 use mathlib.Core.Path.{_≡_, refl, sym, ap, _∙_}
-use Prim.Native.Nat.{ℕ, zero, suc, _+_, _-_, _≤_, _<_}
+use Prim.Native.Nat.{ℕ, suc, _+_, _-_, _≤_, _<_}
 use native.Mathlib.Nat.{le-antisymm}
 use native.Mathlib.Omega.{arith}
 use borrow.Author.Tests.{lt-ltb, le-ltb}
 use lib.Dec.{ltb}
-use Rattle.octets.specs.Choice.{pick}
 use Rattle.places.specs.declared.Place.{Place}
-use Rattle.collision.specs.declared.Two.{Two}
 use Rattle.collision.specs.Collisions.{seek, seekTo, oneTo, laterTo, earlierTo, pairTo, placeAt}
 
 -- ---- a turn: it holds here, it does not, nothing is left

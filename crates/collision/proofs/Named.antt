@@ -7,18 +7,17 @@ use mathlib.Core.Path.{_≡_, refl, sym, ap, _∙_}
 use Prim.Native.Nat.{ℕ, zero, suc, _+_, _-_, _≤_, _<_}
 use native.Mathlib.Nat.{eq-or-lt-of-le}
 use native.Mathlib.Omega.{arith}
-use borrow.Author.Tests.{eq-eqb, ltb-true, ltb-false, lt-ltb}
+use borrow.Author.Tests.{ltb-true, ltb-false, lt-ltb}
 use lib.Dec.{T, ltb, ltb→lt, lit<}
-use lib.ListN.{length, getD, drop}
+use lib.ListN.{drop}
 use Rattle.octets.specs.Choice.{pick}
 use Rattle.frame.specs.Frame.{nstOf}
 use Rattle.frame.specs.Rules.{Rule, _when_, first, rulesOf}
 use Rattle.frame.proofs.FirstRule.{holds-there}
 use Rattle.places.specs.declared.Place.{Place}
-use Rattle.places.specs.Places.{noPlace, placesOf, placeRules, profileOf, some, somePair, sameScid, unsized, beyond, meets}
+use Rattle.places.specs.Places.{placesOf, placeRules, profileOf, some, somePair, sameScid, unsized, beyond, meets}
 use Rattle.places.proofs.Meaning.{some-found, pair-found, clash}
 use Rattle.places.proofs.PlaceList.{places-length, places-at}
-use Rattle.collision.specs.declared.Two.{Two}
 use Rattle.collision.specs.Collisions.{seek, seekTo, oneTo, laterTo, earlierTo, pairTo, twoBy, twoOf, placeAt, FirstOne, FirstTwo}
 use Rattle.collision.proofs.FirstFound.{ofOne, ofTwo, hasLater}
 

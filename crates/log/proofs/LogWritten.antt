@@ -1,14 +1,12 @@
 -- WRITTEN, THEN READ: a log of allowed entries is accepted, each record is handed out, and its entries are those that were written.
 -- Assumes nothing.
-use mathlib.Core.Bool.{Bool, true, false, not, _&&_}
+use mathlib.Core.Bool.{true}
 use mathlib.Core.List.{List, [], _∷_, _++_}
-use mathlib.Core.Path.{_≡_, refl, sym, ap, _∙_}
-use Prim.Native.Nat.{ℕ, zero, suc, _+_, _*_, _/_, _%_, _≤_, _<_}
+use mathlib.Core.Path.{_≡_, refl, ap, _∙_}
+use Prim.Native.Nat.{ℕ, zero, suc, _+_, _*_, _%_, _≤_, _<_}
 use native.Mathlib.Omega.{arith}
 use borrow.Author.Tests.{eq-eqb, le-ltb, lt-leb}
-use lib.Dec.{eqb, ltb, leb}
-use lib.ListN.{length, getD}
-use Rattle.octets.specs.Choice.{pick}
+use lib.ListN.{length}
 use Rattle.octets.proofs.Storing.{each-length}
 use Rattle.log.specs.declared.Entry.{Entry}
 use Rattle.log.specs.Log.{allowedEntry, recordOf, logOf, entryFrom, tailFrom, goodFrom, recordsIn, entriesTo, entriesOf, badFrom, firstBad, logRefusalOf, entryRefusalOf, AllAllowed, PlacesFit}

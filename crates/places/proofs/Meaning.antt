@@ -1,14 +1,14 @@
 -- The number is 0 exactly when the frame passes; another number is that of the first condition that holds.
 -- Assumes nothing.
 use mathlib.Core.Bool.{Bool, true, false, _&&_, _||_}
-use mathlib.Core.List.{List, [], _∷_, _++_}
+use mathlib.Core.List.{List, [], _∷_}
 use mathlib.Core.Path.{_≡_, refl, sym, ap, _∙_}
-use Prim.Native.Nat.{ℕ, zero, suc, _+_, _≤_, _<_}
+use Prim.Native.Nat.{ℕ, zero, suc, _≤_, _<_}
 use native.Mathlib.Omega.{arith}
-use borrow.Author.Tests.{eq-eqb, ne-eqb, eqb-true, eqb-false, lt-ltb, le-ltb, ltb-true, ltb-false, le-leb, lt-leb, leb-true, leb-false}
+use borrow.Author.Tests.{ne-eqb, eqb-true, eqb-false, lt-ltb, ltb-true, ltb-false, lt-leb, leb-true, leb-false}
 use lib.Dec.{eqb, ltb, leb}
 use lib.ListN.{length, getD}
-use Rattle.frame.specs.Rules.{Rule, _when_, first, NoneHold, FirstToHold, Settled, rulesOf, refusalOf}
+use Rattle.frame.specs.Rules.{_when_, first, NoneHold, FirstToHold, Settled, rulesOf, refusalOf}
 use Rattle.frame.proofs.Accepting.{nothing}
 use Rattle.frame.proofs.FirstRule.{only, given, none-hold, none-first, first-zero, first-found}
 use Rattle.places.specs.declared.Place.{Place}

@@ -1,16 +1,14 @@
 -- The answers to C.
 -- Assumes nothing.
 use mathlib.Core.List.{List, [], _∷_}
-use mathlib.Core.Path.{_≡_, refl, sym, ap, _∙_}
+use mathlib.Core.Path.{_≡_, refl, sym, _∙_}
 use Prim.Native.Nat.{ℕ}
 use native.Mathlib.Omega.{arith}
 use borrow.Author.Tests.{ne-eqb}
 use lib.ListN.{length, set}
 use Rattle.frame.specs.Rules.{refusalOf}
-use Rattle.places.specs.Places.{profileOf}
 use Rattle.collision.specs.declared.Collision.{Collision}
-use Rattle.collision.specs.declared.Two.{Two}
-use Rattle.collision.specs.Collisions.{twoOf, FindsStreams}
+use Rattle.collision.specs.Collisions.{FindsStreams}
 use Rattle.profiles.specs.ProfileBytes.{collisionBytes, CollisionTold}
 
 pub three-bytes : (out : List ℕ) (a b c : ℕ) → length out ≡ 3 → set (set (set out 0 a) 1 b) 2 c ≡ a ∷ b ∷ c ∷ []

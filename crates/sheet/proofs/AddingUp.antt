@@ -3,16 +3,16 @@
 use mathlib.Core.Bool.{Bool, true, false, _&&_}
 use mathlib.Core.List.{List, [], _∷_}
 use mathlib.Core.Path.{_≡_, refl, _∙_}
-use Prim.Native.Nat.{ℕ, zero, suc, _+_, _≤_, _<_}
+use Prim.Native.Nat.{ℕ, zero, suc, _+_}
 use native.Mathlib.Omega.{arith}
 use borrow.Author.Tests.{ne-eqb, eqb-true}
 use lib.Dec.{eqb}
-use lib.ListN.{length, getD}
+use lib.ListN.{getD}
 use Rattle.sum.specs.Sum.{digit}
 use Rattle.log.specs.declared.Entry.{Entry}
 use Rattle.log.specs.Log.{allowed, lostCode, entriesOf, recordsIn, logRefusalOf, AllAllowed}
 use Rattle.log.proofs.Accepted.{all-allowed, both}
-use Rattle.sheet.specs.Sheets.{count, isFrame, isLost, isIdle, frameAt, lostBy, sheetOf, total}
+use Rattle.sheet.specs.Sheets.{count, isFrame, isLost, frameAt, lostBy, sheetOf, total}
 use Rattle.sheet.proofs.RowsMean.{frame-parts, code-le, frames-at, lost-by, idle-in}
 use Rattle.sheet.proofs.Weeks.{adds-up}
 

@@ -1,7 +1,6 @@
 -- The 24 bytes of signalling at the C boundary, as docs/BOUNDARY.md lays them out: fields one after another, high byte first.
 -- Assumes nothing.
 use mathlib.Core.List.{List, [], _∷_, _++_}
-use mathlib.Core.Option.{Option}
 use mathlib.Core.Path.{_≡_}
 use Prim.Native.Nat.{ℕ, _≤_}
 use lib.Dec.{eqb, ltb}

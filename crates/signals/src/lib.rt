@@ -1,6 +1,6 @@
 // Signalling for the transmitter's controller, on numbers and byte slices.
 ghost use mathlib.Core.Path.{_≡_};
-ghost use Prim.Native.Nat.{_<_, _^_};
+ghost use Prim.Native.Nat.{_<_};
 ghost use lib.ListN.{length};
 ghost use Rattle.sum.specs.Sum.{digit};
 ghost use Rattle.octets.specs.Words.{join, Fit};

@@ -9,7 +9,6 @@ use lib.ListN.{length, take, drop}
 use Rattle.walk.specs.declared.Begun.{Begun}
 use Rattle.walk.specs.declared.Begun.the-variants.{Walk, Refused}
 use Rattle.walk.specs.declared.State.{State}
-use Rattle.walk.specs.declared.Step.{Step}
 use Rattle.walk.specs.declared.Item.the-variants.{Done}
 use Rattle.walk.specs.Records.{allowed, limitRefusalOf, start, Begins, stepWith, stepAt}
 use Rattle.walk.proofs.Beginning.{is-begun, is-refused}

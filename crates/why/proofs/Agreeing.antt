@@ -3,18 +3,17 @@
 use Prim.Native.Nat.{ℕ, zero, suc, _+_, _-_, _≤_, _<_}
 use mathlib.Core.Path.{_≡_, refl, ap, ap₂, _∙_}
 use mathlib.Core.Bool.{true}
-use mathlib.Core.List.{List, [], _∷_, _++_, map, List·Memᴰ, List·Memᴰ·head, List·Memᴰ·tail, List·Memᴰ·cases-cons, List·Memᴰ·not-nil}
+use mathlib.Core.List.{List, [], _∷_, _++_, List·Memᴰ, List·Memᴰ·head, List·Memᴰ·tail, List·Memᴰ·cases-cons, List·Memᴰ·not-nil}
 use mathlib.Core.Logic.{_⊎_, inl, inr}
 use native.Mathlib.Omega.{arith}
 use lib.ListN.{length, replicate}
-use Rattle.frame.specs.declared.Header.{Header}
 use Rattle.walk.specs.declared.Item.{Item}
 use Rattle.walk.specs.declared.Item.the-variants.{Frame, Idle, Done, Lost as LostMark}
 use Rattle.walk.specs.declared.Position.{Position}
 use Rattle.walk.specs.declared.Step.{Step}
 use Rattle.walk.specs.Walk.{begin, items, rest, stepOf, calls}
 use Rattle.walk.specs.ItemValues.{kindOf}
-use Rattle.walk.specs.Records.{judged, allowed, within, start, stepWith, stepAt, callsAt}
+use Rattle.walk.specs.Records.{judged, allowed, within, start, stepWith, callsAt}
 use Rattle.walk.proofs.Ending.{calls-end}
 use Rattle.walk.proofs.Limits.{step-is}
 use Rattle.why.specs.declared.Reason.the-variants.{HandedOut, Lost}

@@ -2,7 +2,7 @@
 -- Assumes nothing.
 use Prim.Native.Nat.{ℕ, _+_, _≤_, _<_}
 use mathlib.Core.Path.{_≡_, refl, sym, ap, subst, _∙_}
-use mathlib.Core.Bool.{true, false}
+use mathlib.Core.Bool.{true}
 use mathlib.Core.List.{List, List·Memᴰ}
 use native.Mathlib.Omega.{arith}
 use lib.ListN.{length}
@@ -15,7 +15,7 @@ use Rattle.walk.specs.declared.Position.{Position}
 use Rattle.walk.specs.declared.State.{State}
 use Rattle.walk.specs.declared.Step.{Step}
 use Rattle.walk.specs.Walk.{looks, begin, stepOf}
-use Rattle.walk.specs.Records.{part, judged, Allowed, allowed, limitRefusalOf, within, start, Begins, stepWith, stepAt}
+use Rattle.walk.specs.Records.{part, judged, allowed, limitRefusalOf, within, start, Begins, stepWith, stepAt}
 use Rattle.walk.proofs.Beginning.{is-begun, is-refused}
 use Rattle.walk.proofs.Limits.{allowed-is, step-is}
 use Rattle.why.specs.declared.Reason.{Reason}
