@@ -177,6 +177,14 @@ pub call-is-step : {m more r : ℕ} {came w left : List ℕ} {ws : List (List �
     (r ≡ 0) × (left ≡ heldBy (called came (eqb more 1) (stateIn w))) × (stateIn left ≡ called came (eqb more 1) (stateIn w) .walk)
 call-is-step {more = more} {r} {came} {w} {left} l c = let S = sound l in let o = one-call more r came w left S c in (o .0, o .1, walk-back more r came w left S c)
 
+-- and the place of what it tells is the one in the bytes that it leaves
+pub told-place : {m more r : ℕ} {came w left : List ℕ} {ws : List (List ℕ)} → Line m more came w ws → Calls more came w left r → eightAt left 13 ≡ toldPlace (called came (eqb more 1) (stateIn w) .told)
+unfolding liveBytes toldBytes
+told-place {more = more} {r} {came} {w} {left} l c =
+    let S = sound l in
+    let x = called came (eqb more 1) (stateIn w) in
+    ap (λ (v : List ℕ). eightAt v 13) (one-call more r came w left S c .1) ∙ join-split bytes8 (toldPlace (x .told)) (step-fits more r came w left S c .told)
+
 -- the run behind a line from C, and that its places are small
 pub record Behind (m more : ℕ) (came w : List ℕ) (ws : List (List ℕ)) : Type 0 where
   pub is : IsRun m more came w ws

@@ -1,8 +1,8 @@
--- Demand 3 of a live line as C sees it, both parts, with every limit; and what a caller keeps.
+-- Demand 3 of a live line as C sees it, both parts, with every limit; what a caller keeps; and the line's end.
 -- Assumes nothing.
-use mathlib.Core.Bool.{true}
+use mathlib.Core.Bool.{true, false}
 use mathlib.Core.List.{List, [], _∷_, _++_, map, map-append}
-use mathlib.Core.Path.{_≡_, refl, sym, ap, _∙_}
+use mathlib.Core.Path.{_≡_, refl, sym, ap, subst, _∙_}
 use Prim.Native.Nat.{ℕ, _+_, _-_, _*_, _/_, _%_, _^_, _≤_, _<_}
 use native.Mathlib.Omega.{arith}
 use borrow.Author.Tests.{le-leb}
@@ -14,18 +14,18 @@ use Rattle.frame.specs.declared.Header.{Header}
 use Rattle.walk.specs.declared.Item.{Item}
 use Rattle.walk.specs.declared.Item.the-variants.{Frame, Lost, Idle, Done}
 use Rattle.walk.specs.declared.State.{State}
-use Rattle.walk.specs.ItemValues.{frameKind, kindOf, placeOf}
+use Rattle.walk.specs.ItemValues.{frameKind, doneKind, kindOf, placeOf}
 use Rattle.walk.specs.Demand3.{EndsIn, UnbrokenIn, Out, outSince, framesOut, periodsOut}
 use Rattle.live.specs.declared.Told.{Told}
 use Rattle.live.specs.declared.Told.the-variants.{Got, More}
 use Rattle.live.specs.Live.{far}
-use Rattle.lasting.specs.LiveRuns.{called, needed}
-use Rattle.lasting.proofs.LineRuns.{run-inside, run-keeps}
+use Rattle.lasting.specs.LiveRuns.{called, needed, Complete}
+use Rattle.lasting.proofs.LineRuns.{run-inside, run-keeps, run-out}
 use Rattle.lasting.proofs.LineDemand3.{line-intact, line-periods}
 use Rattle.block.specs.WalkBytes.{toldBytes, stateIn}
-use Rattle.living.specs.LiveBytes.{moreKind, liveBytes}
+use Rattle.living.specs.LiveBytes.{moreKind, toldPlace, liveBytes}
 use Rattle.calls.specs.LiveCalls.{Calls, Line, itemBytes, seenSince}
-use Rattle.calls.proofs.CLine.{Small, behind, line-is-run, line-allowed, call-is-step}
+use Rattle.calls.proofs.CLine.{Small, behind, line-is-run, line-allowed, call-is-step, told-place}
 
 more-told : (t : Told) (s : State) → getD (liveBytes t s) 11 0 ≡ moreKind → (q : ℕ) × (t ≡ More q)
 unfolding liveBytes toldBytes
@@ -34,6 +34,14 @@ more-told (Got (Lost p n)) s e = absurd (omega arith)
 more-told (Got (Idle p)) s e = absurd (omega arith)
 more-told (Got (Done p)) s e = absurd (omega arith)
 more-told (More q) s e = (q, refl)
+
+done-told : (t : Told) (s : State) → getD (liveBytes t s) 11 0 ≡ doneKind → t ≡ Got (Done (toldPlace t))
+unfolding liveBytes toldBytes
+done-told (Got (Frame p h)) s e = absurd (omega arith)
+done-told (Got (Lost p n)) s e = absurd (omega arith)
+done-told (Got (Idle p)) s e = absurd (omega arith)
+done-told (Got (Done p)) s e = refl
+done-told (More q) s e = absurd (omega arith)
 
 -- ---- what C sees, taken apart
 since-all : (xs : List Out) → outSince 0 xs ≡ xs
@@ -109,6 +117,15 @@ module _ {m r : ℕ} {came w left : List ℕ} {ws : List (List ℕ)} (l : Line m
 pub c-line-demand-3-first : {r : ℕ} {came w left : List ℕ} {ws : List (List ℕ)} → Line 3 1 came w ws → length came < far → Calls 1 came w left r → getD left 11 0 ≡ moreKind →
     (a n : ℕ) → EndsIn came a n → 4 ≤ n → seenSince (a + 2 * 6144) ws ≡ map itemBytes (framesOut came (a + 2 * 6144) (n - 2))
 c-line-demand-3-first l h c k a n E f = c-line-intact l h c k a n E f
+
+-- THE END: where the line has ended and a call says done, C has seen all that the walk over all that came hands out, and that walk says done at the place in the bytes
+pub c-line-out : {m r : ℕ} {came w left : List ℕ} {ws : List (List ℕ)} → Line m 0 came w ws → length came < far → Calls 0 came w left r → getD left 11 0 ≡ doneKind →
+    (outs : List Out) × (seenSince 0 ws ≡ map itemBytes outs) × Complete m came outs (eightAt left 13)
+c-line-out {m} {came = came} {w} {left} l h c k =
+    let R = line-is-run l in
+    let x = called came false (stateIn w) in
+    let d = done-told (x .told) (x .walk) (ap (λ (v : List ℕ). getD v 11 0) (sym (call-is-step l c .1)) ∙ k) in
+    (R .outs, R .seen 0 ∙ ap (map itemBytes) (since-all (R .outs)), subst (Complete m came (R .outs)) (sym (told-place l c)) (run-out (R .run) h (toldPlace (x .told)) d))
 
 -- THE WINDOW BEGINS IN WHAT HAS COME, at every time
 pub c-line-inside : {m more : ℕ} {came w : List ℕ} {ws : List (List ℕ)} → Line m more came w ws → length came < far → eightAt w 0 ≤ length came

@@ -1,3 +1,4 @@
 pub mod CLine
 pub mod CLineDemand3
 pub mod CLeased
+pub mod SuppositionsMet
