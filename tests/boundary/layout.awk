@@ -25,7 +25,7 @@ function number(piece, from,    counts, values) {
     return lay(values, counts, from)
 }
 { left = $0; sub(/^.* = /, "", left) }
-/^(first|second|third|stream|marks|why)Values .* = / || /^(first|second|third|stream|marks|why)Counts = / { is[$1] = left }
+/^(first|second|third|stream|marks|reason)Values .* = / || /^(first|second|third|stream|marks|why)Counts = / { is[$1] = left }
 /^partBytes .* = / { print "whole PART", number(left, 0) }
 /^toldBytes .* =$/ { telling = 1; steps = ""; next }
 telling && /^ / { sub(/^ +/, steps == "" ? "" : " "); steps = steps $0; next }
@@ -45,5 +45,5 @@ END {
     prefix = "ITEM_" # the answer has FCT and LEVEL too
     print "whole WALK", number(piece[4], at)
     prefix = ""
-    print "whole WHY", lay(is["whyValues"], is["whyCounts"], 0)
+    print "whole WHY", lay(is["reasonValues"], is["whyCounts"], 0)
 }
