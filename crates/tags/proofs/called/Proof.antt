@@ -5,7 +5,7 @@ use Rattle.tags.proofs.called.Tie as tie
 
 returns : tie.Need-returns
 unfolding lengthFor
-returns c = cc
+returns c = rw (← c .before .rfud-place .ensures .0, ← c .before .before .deti .ensures .rfudf)
 
 pub called-spec : {M : Type 1} → statement M
 called-spec =

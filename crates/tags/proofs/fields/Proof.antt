@@ -5,7 +5,11 @@ use Rattle.tags.proofs.fields.Tie as tie
 
 returns : tie.Need-returns
 unfolding fieldsBy mnscIn
-returns c = cc
+returns c =
+    let t = c .before .before .before .before in
+    let d = t .before .before .deti .ensures in
+    let two = c .before .before .two .ensures .0 in
+    rw (← d .stat, ← d .fct, ← d .ficf, ← d .fp, ← d .mid, t .level .ensures, two, c .before .rfu .ensures, c .rfa .ensures, t .before .timestamp .ensures)
 
 pub fields-spec : {M : Type 1} → statement M
 fields-spec =

@@ -11,7 +11,7 @@ returns c = rw (eq-eqb _ _ (sym (c .before .before .pre) ∙ c .if1 .taken))
 
 returns-2 : tie.Need-returns-2
 unfolding rfaIn
-returns-2 c = rw (ne-eqb _ _ (λ e. c .before .before .if1 .left (c .before .before .before .before .pre ∙ e))) (cc)
+returns-2 c = rw (ne-eqb _ _ (λ e. c .before .before .if1 .left (c .before .before .before .before .pre ∙ e)), ← c .before .rfud-place .ensures .0, c .byte .ensures .0)
 
 pub rfa-spec : {M : Type 1} → statement M
 rfa-spec =

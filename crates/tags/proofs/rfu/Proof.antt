@@ -11,7 +11,7 @@ returns c = rw (eq-eqb _ _ (sym (c .before .before .pre) ∙ c .if1 .taken))
 
 returns-2 : tie.Need-returns-2
 unfolding rfuIn
-returns-2 c = rw (ne-eqb _ _ (λ e. c .before .before .if1 .left (c .before .before .before .before .pre ∙ e))) (cc)
+returns-2 c = rw (ne-eqb _ _ (λ e. c .before .before .if1 .left (c .before .before .before .before .pre ∙ e)), ← c .before .rfud-place .ensures .0, c .two .ensures .0)
 
 pub rfu-spec : {M : Type 1} → statement M
 rfu-spec = tie.close (tie.spec returns (λ c κs. search needs) (λ c κs. search needs) (λ c. search needs) returns-2)

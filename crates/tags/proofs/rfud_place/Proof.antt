@@ -14,7 +14,7 @@ returns : tie.Need-returns
 unfolding rfudPlace
 returns c =
     let m = c .before .before .before .args .m .now in
-    (cc, omega (arith, c .before .fic .ensures .0, c .before .fic .ensures .1, fic-place-small m, ficl-small (ficfIn m) (midIn m)))
+    (rw (c .before .fic .ensures .0, c .before .fic .ensures .1), omega (arith, c .before .fic .ensures .0, c .before .fic .ensures .1, fic-place-small m, ficl-small (ficfIn m) (midIn m)))
 
 pub rfud-place-spec : {M : Type 1} → statement M
 rfud-place-spec = tie.close (tie.spec (λ c κs. search needs) add-result returns)

@@ -13,7 +13,7 @@ returns c = rw (eq-eqb _ _ (sym (c .before .before .pre) ∙ c .if1 .taken))
 returns-2 : tie.Need-returns-2
 unfolding timestampIn tstaIn
 returns-2 c =
-    rw (ne-eqb _ _ (λ e. c .before .before .if1 .left (c .before .before .before .before .pre ∙ e))) (cc (div-one (c .before .eight .result)))
+    rw (ne-eqb _ _ (λ e. c .before .before .if1 .left (c .before .before .before .before .pre ∙ e)), ← c .before .eight .ensures, div-one (c .before .eight .result), c .timestamp .ensures)
 
 pub timestamp-spec : {M : Type 1} → statement M
 timestamp-spec =
