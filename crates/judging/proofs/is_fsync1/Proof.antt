@@ -8,7 +8,7 @@ use Rattle.judging.proofs.is_fsync1.Tie as tie
 
 returns : tie.Need-returns
 unfolding isFsync1
-returns c = rw (eq-eqb (length (c .before .before .before .before .args .frame .now)) 6144 (omega arith)) (cc)
+returns c = rw (eq-eqb (length (c .before .before .before .before .args .frame .now)) 6144 (omega arith), c .fsync .ensures, c .before .sync .ensures .fsync)
 
 returns-2 : tie.Need-returns-2
 unfolding isFsync1

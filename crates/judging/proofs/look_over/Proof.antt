@@ -25,10 +25,11 @@ loop-again c =
     let f = c .before .before .before .before .before .before .args .frame .now in
     let i = c .before .before .before .before .loop .i in
     let e = ap (λ (s : Stream). s .stl) (c .before .before .entry .ensures) in
-    (search needs, cc (some-more 684 f i), cc (total-more f i), search needs)
+    let inv = c .before .before .before .before .loop .inv in
+    (search needs, rw (some-more 684 f i, inv .1, e), rw (total-more f i, inv .2, e), search needs)
 
 returns : tie.Need-returns Inv-loop μ-loop
-returns c = let e = le-antisymm (c .before .loop .inv .0) (c .loop-test .left) in (cc, cc)
+returns c = let e = le-antisymm (c .before .loop .inv .0) (c .loop-test .left) in (rw (c .before .loop .inv .1, e), rw (c .before .loop .inv .2, e))
 
 pub look-over-spec : {M : Type 1} → statement M
 look-over-spec =

@@ -3,7 +3,9 @@ use Rattle.reading.proofs.main_sum.Statement.{statement}
 use Rattle.reading.proofs.main_sum.Tie as tie
 
 returns : tie.Need-returns
-returns c = cc
+returns c =
+    let fc = c .before .before .before .fc .ensures in
+    rw (c .sum-between .ensures, fc .nst, fc .fl)
 
 pub main-sum-spec : {M : Type 1} → statement M
 main-sum-spec =

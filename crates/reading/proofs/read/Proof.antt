@@ -17,7 +17,7 @@ table-requires c κs = let e = ap (λ (h : Header). h .nst) (c .before .header .
 
 returns-2 : tie.Need-returns-2
 unfolding headerFor
-returns-2 c = let e = ap (λ (h : Header). h .nst) (c .before .before .header .ensures) in read-accepted _ _ (c .before .before .before .before .judge .ensures) (c .before .before .before .if1 .left) _ _ (c .before .before .header .ensures) (cc)
+returns-2 c = let e = ap (λ (h : Header). h .nst) (c .before .before .header .ensures) in read-accepted _ _ (c .before .before .before .before .judge .ensures) (c .before .before .before .if1 .left) _ _ (c .before .before .header .ensures) (rw (c .table .ensures, e))
 
 pub read-spec : {M : Type 1} → statement M
 read-spec =
