@@ -24,7 +24,7 @@ loop-again c =
     (search needs, test-more _ _ (c .before .before .before .loop .i) _ _ (c .before .before .before .loop .inv .1) (c .before .power .ensures) (c .value-at .ensures))
 
 returns : tie.Need-returns Inv-loop μ-loop
-returns c = let e = le-antisymm (c .before .loop .inv .0) (c .loop-test .left) in cc
+returns c = let e = le-antisymm (c .before .loop .inv .0) (c .loop-test .left) in rw (c .before .loop .inv .1, e)
 
 pub is-clean-spec : {M : Type 1} → statement M
 is-clean-spec =

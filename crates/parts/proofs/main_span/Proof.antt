@@ -3,7 +3,9 @@ use Rattle.parts.proofs.main_span.Statement.{statement}
 use Rattle.parts.proofs.main_span.Tie as tie
 
 returns : tie.Need-returns
-returns c = cc
+returns c =
+    let fc = c .before .before .fc .ensures in
+    rw (fc .nst, fc .fl)
 
 pub main-span-spec : {M : Type 1} → statement M
 main-span-spec =

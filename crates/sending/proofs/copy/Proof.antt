@@ -28,7 +28,7 @@ loop-again c =
     )
 
 returns : tie.Need-returns Inv-loop μ-loop
-returns c = let e = le-antisymm (c .before .loop .inv .0) (c .loop-test .left) in cc
+returns c = let e = le-antisymm (c .before .loop .inv .0) (c .loop-test .left) in rw (c .before .loop .inv .2, e)
 
 pub copy-spec : {M : Type 1} → statement M
 copy-spec =

@@ -37,7 +37,7 @@ same-length c =
     same-room (start .args .out .now) (start .args .m .now) (c .before .loop .i) (c .before .loop .out) (search needs) (search needs) (c .before .loop .inv .1)
 
 returns : tie.Need-returns Inv-loop μ-loop
-returns c = let e = le-antisymm (c .before .loop .inv .0) (c .loop-test .left) in cc
+returns c = let e = le-antisymm (c .before .loop .inv .0) (c .loop-test .left) in rw (c .before .loop .inv .1, e)
 
 pub put-continuations-spec : {M : Type 1} → statement M
 put-continuations-spec =

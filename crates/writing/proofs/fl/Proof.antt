@@ -5,7 +5,7 @@ use Rattle.writing.proofs.fl.Tie as tie
 
 returns : tie.Need-returns
 unfolding flIn
-returns c = cc
+returns c = rw (c .before .ficl .ensures .0, c .before .before .bit .ensures, c .before .before .before .look-over .ensures .2)
 
 pub fl-spec : {M : Type 1} → statement M
 fl-spec =
