@@ -80,8 +80,8 @@ none-above m f (suc n) h =
     ∙ rw (none-above m f n (λ i l. h i (omega arith)), le-ltb m (streamOf f n .stl) (h n (omega arith)))
 
 -- a store of the next entry makes the table of one entry more
-pub table-more : (ss : List Stream) (s : Stream) → length ss < 64 → set (tableBy ss) (length ss) s ≡ tableBy (ss ++ (s ∷ []))
+pub table-more : (ss : List Stream) (s : Stream) (n : ℕ) → length ss ≡ n → n < 64 → set (tableBy ss) n s ≡ tableBy (ss ++ (s ∷ []))
 unfolding tableBy
-table-more ss s h =
-    let e : 64 - length ss ≡ suc (64 - (length ss + 1)) = omega arith in
-    rw (ap (λ (k : ℕ). replicate k noStream) e, set-at ss noStream (replicate (64 - (length ss + 1)) noStream) s (length ss) refl, length-append, append-snoc)
+table-more ss s n e h =
+    let m : 64 - length ss ≡ suc (64 - (length ss + 1)) = omega arith in
+    rw (ap (λ (k : ℕ). replicate k noStream) m, set-at ss noStream (replicate (64 - (length ss + 1)) noStream) s n e, length-append, append-snoc)

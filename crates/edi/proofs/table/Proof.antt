@@ -1,9 +1,8 @@
 use mathlib.Core.Path.{_≡_, ap, _∙_}
-use Prim.Native.Nat.{_+_, _-_, _≤_, _<_}
+use Prim.Native.Nat.{_+_, _-_, _≤_}
 use native.Mathlib.Nat.{le-antisymm}
 use native.Mathlib.Omega.{arith}
 use borrow.Author.Needs.{needs}
-use lib.ListN.{length}
 use Rattle.frame.specs.Answers.{tableBy}
 use Rattle.frame.proofs.Streams.{table-more}
 use Rattle.items.specs.TagItems.{itemsOf, valueOf}
@@ -56,12 +55,11 @@ loop-again c =
     let is = itemsOf (start .args .packet .now) in
     let i = c .before .before .loop .i in
     let h = kept-count _ _ _ _ (start .pre .kept) in
-    let l : length (entriesTo is i) < 64 = rw (entries-length is i) (omega arith) in
     let e = c .entry .ensures ∙ ap entryIn (stream-at _ _ _ _ (start .pre .kept) i (search needs) .at .value) in
-    (search needs, cc (e, entries-length is i, entries-more is i, table-more (entriesTo is i) (entryIn (valueOf (i + 1) is)) l))
+    (search needs, rw (entries-more is i, c .before .before .loop .inv .1, e) (table-more (entriesTo is i) (entryIn (valueOf (i + 1) is)) i (entries-length is i) (omega arith)))
 
 returns : tie.Need-returns Inv-loop μ-loop
-returns c = let e = le-antisymm (c .before .loop .inv .0) (c .loop-test .left) in cc
+returns c = let e = le-antisymm (c .before .loop .inv .0) (c .loop-test .left) in rw (c .before .loop .inv .1, e)
 
 pub table-spec : {M : Type 1} → statement M
 table-spec =

@@ -1,8 +1,7 @@
 use mathlib.Core.Path.{_≡_}
-use Prim.Native.Nat.{_≤_, _<_, _-_}
+use Prim.Native.Nat.{_≤_, _-_}
 use native.Mathlib.Nat.{le-antisymm}
 use native.Mathlib.Omega.{arith}
-use lib.ListN.{length}
 use Rattle.frame.specs.Answers.{tableBy}
 use Rattle.frame.proofs.Streams.{table-more}
 use Rattle.entries.specs.Entered.{entryIn, entriesTo}
@@ -25,11 +24,10 @@ loop-again : tie.Need-loop-again Inv-loop μ-loop
 loop-again c =
     let b = c .before .before .before .before .before .args .bytes .now in
     let i = c .before .before .loop .i in
-    let h : length (entriesTo b i) < 64 = rw (entries-length b i) (omega arith) in
-    (search needs, cc (entries-length b i, entries-more b i, table-more (entriesTo b i) (entryIn b i) h))
+    (search needs, rw (entries-more b i, c .before .before .loop .inv .1, c .entry .ensures) (table-more (entriesTo b i) (entryIn b i) i (entries-length b i) (omega arith)))
 
 returns : tie.Need-returns Inv-loop μ-loop
-returns c = let e = le-antisymm (c .before .loop .inv .0) (c .loop-test .left) in cc
+returns c = let e = le-antisymm (c .before .loop .inv .0) (c .loop-test .left) in rw (c .before .loop .inv .1, e)
 
 pub table-spec : {M : Type 1} → statement M
 table-spec =

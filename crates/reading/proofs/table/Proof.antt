@@ -1,21 +1,13 @@
-use mathlib.Core.List.{List, [], _∷_, _++_}
-use mathlib.Core.Path.{_≡_, subst}
-use Prim.Native.Nat.{ℕ, _+_, _≤_, _<_, _-_}
+use mathlib.Core.Path.{_≡_}
+use Prim.Native.Nat.{_≤_, _-_}
 use native.Mathlib.Nat.{le-antisymm}
 use native.Mathlib.Omega.{arith}
 use borrow.Author.Needs.{needs}
-use lib.ListN.{set}
 use Rattle.frame.specs.Frame.{streamOf, streamsTo}
 use Rattle.frame.specs.Answers.{tableBy}
 use Rattle.frame.proofs.Streams.{streams-length, streams-more, table-more}
 use Rattle.reading.proofs.table.Statement.{statement}
 use Rattle.reading.proofs.table.Tie as tie
-
-table-entry : (f : List ℕ) (n : ℕ) → n < 64 → set (tableBy (streamsTo f n)) n (streamOf f n) ≡ tableBy (streamsTo f (n + 1))
-table-entry f n h =
-    let l = streams-length f n in
-    let more = table-more (streamsTo f n) (streamOf f n) (rw l h) in
-    rw (streams-more f n) (subst (λ (k : ℕ). set (tableBy (streamsTo f n)) k (streamOf f n) ≡ tableBy (streamsTo f n ++ (streamOf f n ∷ []))) l more)
 
 abbrev Inv-loop : tie.InvT-loop
 Inv-loop frame n table₀ i₀ table i = (i ≤ n) × (table ≡ tableBy (streamsTo frame i))
@@ -31,7 +23,7 @@ loop-again : tie.Need-loop-again Inv-loop μ-loop
 loop-again c =
     let f = c .before .before .before .before .before .args .frame .now in
     let i = c .before .before .loop .i in
-    (search needs, rw (c .before .before .loop .inv .1, c .entry .ensures) (table-entry f i (omega arith)))
+    (search needs, rw (streams-more f i, c .before .before .loop .inv .1, c .entry .ensures) (table-more (streamsTo f i) (streamOf f i) i (streams-length f i) (omega arith)))
 
 returns : tie.Need-returns Inv-loop μ-loop
 returns c = let e = le-antisymm (c .before .loop .inv .0) (c .loop-test .left) in rw (c .before .loop .inv .1, e)
