@@ -11,8 +11,8 @@ pub const MOST_STL: u16 = 684;
 pub const MOST_FL: usize = 1532;
 /// The timestamp number that means none is given.
 pub const NO_TIME: u32 = 0xFF_FFFF;
-/// The last number that is a time (annex C.2); from there to the one that means none, numbers are reserved.
-pub const LAST_TIME: u32 = 16_383_999;
+/// The last time, F9FFFF: a second of 16.384 MHz less one period (annex C.2.1). Between it and none all is reserved (C.2.3).
+pub const LAST_TIME: u32 = 16_384_000 - 1;
 /// The refusal number of a null transmission.
 pub const NULL_TRANSMISSION: u8 = 4;
 /// The logical frame begins behind status and sync word.
@@ -21,26 +21,40 @@ pub const LOGICAL: usize = 4;
 pub const STATUS: [u8; 4] = [0xFF, 0xF0, 0x0F, 0x00];
 pub const SYNC: [[u8; 3]; 2] = [[0x07, 0x3A, 0xB6], [0xF8, 0xC5, 0x49]];
 
+/// The sorts of annex C.2.
 #[derive(Clone, Copy, Debug, PartialEq, Eq)]
 pub enum Timestamp {
-    None,
     Time(u32),
     Reserved(u32),
+    None,
 }
 
 impl Timestamp {
+    /// What a number of 24 bits means.
     pub fn of(number: u32) -> Timestamp {
-        match number {
-            NO_TIME => Timestamp::None,
-            number if number <= LAST_TIME => Timestamp::Time(number),
-            number => Timestamp::Reserved(number),
+        if number == NO_TIME {
+            Timestamp::None
+        } else if number <= LAST_TIME {
+            Timestamp::Time(number)
+        } else {
+            Timestamp::Reserved(number)
         }
     }
 
+    /// The number that is sent for it.
     pub fn number(self) -> u32 {
         match self {
-            Timestamp::None => NO_TIME,
             Timestamp::Time(number) | Timestamp::Reserved(number) => number,
+            Timestamp::None => NO_TIME,
+        }
+    }
+
+    /// Whether its number is in its sort's range; beside none stands no number.
+    pub fn fits(self) -> bool {
+        match self {
+            Timestamp::Time(number) => number <= LAST_TIME,
+            Timestamp::Reserved(number) => LAST_TIME < number && number < NO_TIME,
+            Timestamp::None => true,
         }
     }
 }
@@ -60,8 +74,9 @@ pub struct Header {
     pub rfu: u16,
     pub rfa: u8,
     pub timestamp: Timestamp,
-    /// The main-stream sum as sent, and as worked out.
+    /// The main-stream sum as sent.
     pub sent: u16,
+    /// The main-stream sum as worked out, also where it is the one sent.
     pub worked: u16,
 }
 
@@ -152,10 +167,12 @@ pub fn read(frame: &[u8]) -> Result<Reading, u8> {
 /// The header of an accepted frame.
 fn header(frame: &[u8]) -> Header {
     let end = main_end(frame);
+    let sent = two(frame, end);
+    let worked = sum(&frame[main_start(frame)..end]);
     let number = two(frame, end + 4) & 0xFF;
     let time = u32::from(number) << 16 | u32::from(two(frame, end + 6));
     Header {
-        level: level_handed_on(frame),
+        level: level_handed_on(frame, sent == worked),
         fsync1: fsync1(frame) == Some(true),
         fct: frame[LOGICAL],
         ficf: ficf(frame),
@@ -167,17 +184,16 @@ fn header(frame: &[u8]) -> Header {
         rfu: two(frame, end + 2),
         rfa: frame[end + 4],
         timestamp: Timestamp::of(time),
-        sent: two(frame, end),
-        worked: sum(&frame[main_start(frame)..end]),
+        sent,
+        worked,
     }
 }
 
 /// A wrong main-stream sum raises the level to 2; nothing lowers it.
-fn level_handed_on(frame: &[u8]) -> u8 {
+fn level_handed_on(frame: &[u8], sums_agree: bool) -> u8 {
     let read = STATUS.iter().position(|&byte| byte == frame[0]);
     let level = read.unwrap_or(3) as u8;
-    let end = main_end(frame);
-    if sum(&frame[main_start(frame)..end]) == two(frame, end) {
+    if sums_agree {
         level
     } else {
         level.max(2)

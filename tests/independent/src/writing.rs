@@ -2,12 +2,13 @@
 
 use crate::frame::{
     ficl, formula, Stream, Table, Timestamp, FRAME, LOGICAL, MOST_FCT, MOST_FL, MOST_STL,
-    MOST_STREAMS, NO_TIME, STATUS, SYNC,
+    MOST_STREAMS, STATUS, SYNC,
 };
 use crate::sum::sum;
 
 pub const PADDING: u8 = 0x55;
 
+/// What a reading answers, without FL and both sums: writing works them out itself.
 #[derive(Clone, Copy, Debug, PartialEq, Eq)]
 pub struct Fields {
     pub level: u8,
@@ -44,13 +45,10 @@ impl Fields {
     }
 
     fn too_wide(&self) -> bool {
-        // A number outside its sort's range; beside 'none' no number stands.
-        let number = self.timestamp.number();
-        let time_too_wide = number > NO_TIME || Timestamp::of(number) != self.timestamp;
         self.level > 3
             || self.fp > 7
             || self.mid > 3
-            || time_too_wide
+            || !self.timestamp.fits()
             || self.counted().iter().any(entry_too_wide)
     }
 
@@ -92,10 +90,6 @@ impl Fields {
         put(&mut bytes, self.mnsc);
         bytes
     }
-
-    fn time(&self) -> u32 {
-        self.timestamp.number()
-    }
 }
 
 /// 0 if the frame is written, else the refusal number, with `out` untouched.
@@ -111,7 +105,7 @@ pub fn write(fields: &Fields, main: &[u8], out: &mut [u8]) -> u8 {
     put(&mut bytes, sum(main));
     put(&mut bytes, fields.rfu);
     bytes.push(fields.rfa);
-    bytes.extend(&fields.time().to_be_bytes()[1..]);
+    bytes.extend(&fields.timestamp.number().to_be_bytes()[1..]);
     bytes.resize(FRAME, PADDING);
     out.copy_from_slice(&bytes);
     0

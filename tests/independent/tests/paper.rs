@@ -490,3 +490,22 @@ fn sorts_of_timestamps() {
         );
     }
 }
+
+/// Both sums are answered, also when they agree, and a relay does not write the one that came. B65E was worked out in Python.
+#[test]
+fn both_sums_are_answered() {
+    let sums = |frame: &[u8]| {
+        let header = read(frame).unwrap().header;
+        (header.sent, header.worked)
+    };
+    for (lengths, worked) in [(&[][..], 0x0000), (&[1], 0xB65E)] {
+        let mut frame = written(&with_lengths(bare(), lengths)).unwrap();
+        assert_eq!(sums(&frame), (worked, worked));
+        let end = main_stream_part(&frame).unwrap().end;
+        frame[end..end + 2].copy_from_slice(&[0x12, 0x34]);
+        assert_eq!(sums(&frame), (0x1234, worked));
+        let mut out = vec![0; FRAME];
+        assert_eq!(relay(&frame, &mut out), 0);
+        assert_eq!(sums(&out), (worked, worked));
+    }
+}
