@@ -4,11 +4,11 @@
 
 #include "spindlewren.h"
 
-/* Exit statuses; the last is that of list --strict. */
-enum { DONE = 0, COULD_NOT = 1, WRONG_USE = 2, LOST_SOME = 3 };
+/* Exit statuses; the last is that of --strict. */
+enum { DONE = 0, COULD_NOT = 1, WRONG_USE = 2, NOT_ALL = 3 };
 
 /* What a verb is asked: a file or several; and, where the verb takes them, a way (out, back), a place, a part's name, the limit of misses of a walk, which sync
-   word, 0 or 1, a frame gets, the variant of a leased line; and whether a page, filled periods, a status for lost marks or JSON are wanted. */
+   word, 0 or 1, a frame gets, the variant of a leased line; and whether a page, filled periods, a status for what was lost or does not pass, or JSON are wanted. */
 struct request {
     const char *file;
     char **files;

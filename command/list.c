@@ -103,5 +103,5 @@ void list(const struct request *asked) {
     /* what is looked at as it comes waits for nothing */
     if (!is_line(asked->file) && !isatty(STDOUT_FILENO)) l.most = sizeof l.text - LONGEST;
     each_item(asked, "place kind code level", line, &l);
-    if (asked->strict && l.lost > 0) finish(LOST_SOME);
+    if (asked->strict && l.lost > 0) finish(NOT_ALL);
 }

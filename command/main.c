@@ -31,7 +31,7 @@ static void help(const struct verb *only) {
     if (only == NULL || only->takes & (TAKES_PLACE | MAY_TAKE_PLACE)) printf("PLACE is a byte's number in the file, from 0 on.\n");
     tell_options(only);
     printf("  --help, --version\n"
-           "Exit status: 0 done, 1 could not (the reason is on standard error), 2 wrong use%s.\n", only == NULL || only->takes & TAKES_STRICT ? ", 3 lost (--strict)" : "");
+           "Exit status: 0 done, 1 could not (the reason is on standard error), 2 wrong use%s.\n", only == NULL || only->takes & TAKES_STRICT ? ", 3 lost or not passing (--strict)" : "");
 }
 
 /* Whether a word stands before any --. */

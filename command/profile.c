@@ -86,15 +86,20 @@ static void judge(const uint8_t *item, uint64_t place, const uint8_t *walk, void
     else as_text(place, item, found);
 }
 
-void profile(const struct request *asked) {
-    struct count count = {asked->json, 0, 0};
-    each_item(asked, "place: profile", judge, &count);
-    if (!asked->json) {
-        printf("frames %llu, passing %llu\n", count.frames, count.passing);
+static void in_all(const struct count *count) {
+    if (!count->json) {
+        printf("frames %llu, passing %llu\n", count->frames, count->passing);
         return;
     }
     json_begin(stdout);
-    json_number("frames", count.frames);
-    json_number("passing", count.passing);
+    json_number("frames", count->frames);
+    json_number("passing", count->passing);
     json_end();
+}
+
+void profile(const struct request *asked) {
+    struct count count = {asked->json, 0, 0};
+    each_item(asked, "place: profile", judge, &count);
+    in_all(&count);
+    if (asked->strict && count.passing < count.frames) finish(NOT_ALL);
 }

@@ -4,7 +4,7 @@ VERB("extract", extract, TAKES_LIMIT | TAKES_PART | TAKES_FILL, "[--limit M] [--
 VERB("g704", g704, TAKES_LIMIT | TAKES_WAY, "out|back [--limit M] [--variant V] FILE", "a record's frames as multiframes of a leased line, or such multiframes as frames")
 VERB("list", list, TAKES_LIMIT | TAKES_STRICT, "[--limit M] [--strict] FILE", "a line for each frame, lost mark and idle period, and the end")
 VERB("log", keep_log, TAKES_LIMIT, "[--limit M] FILE > LOG", "the fault log of a record: sixteen bytes for each frame, lost mark and idle period")
-VERB("profile", profile, TAKES_LIMIT, "[--limit M] FILE", "of each frame handed out, whether it passes the final-stage profile, and what is in the way")
+VERB("profile", profile, TAKES_LIMIT | TAKES_STRICT, "[--limit M] [--strict] FILE", "of each frame handed out, whether it passes the final-stage profile, and what is in the way")
 VERB("sheet", sheet, TAKES_MANY | TAKES_HTML, "[--html] LOG ..", "what one log or several joined add up to, as a table, or as a page to look at")
 VERB("show", show, TAKES_LIMIT | MAY_TAKE_PLACE, "[--limit M] FILE [PLACE]", "every field and sub-channel of the first frame handed out, or of the frame at a place")
 VERB("signalling", signalling, TAKES_LIMIT, "[--limit M] FILE", "each message that the frames' MNSC bytes carry, and each group or message dropped")
