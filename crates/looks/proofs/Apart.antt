@@ -1,7 +1,7 @@
 -- Places of bytes that stand are at least four apart: no byte of a sync word is a status byte. The bound that follows.
 -- Assumes nothing.
-use Prim.Native.Nat.{ℕ, suc, _+_, _-_, _*_, _≤_, _<_}
-use mathlib.Core.Path.{_≡_, subst, sym, _∙_}
+use Prim.Native.Nat.{ℕ, _+_, _-_, _*_, _≤_, _<_}
+use mathlib.Core.Path.{_≡_, subst}
 use mathlib.Core.Bool.{true}
 use mathlib.Core.List.{List}
 use mathlib.Core.Logic.{_⊎_, inl, inr}
@@ -10,7 +10,7 @@ use native.Mathlib.Decide.{decLe}
 use lib.Dec.{lit<}
 use lib.ListN.{length, getD}
 use borrow.Author.Tests.{eqb-true}
-use Rattle.frame.specs.Frame.{errOf, fsyncOf}
+use Rattle.frame.specs.Frame.{errOf}
 use Rattle.frame.specs.Rules.{refusalOf, Acceptable}
 use Rattle.frame.specs.Writing.{Bytes}
 use Rattle.frame.proofs.Accepting.{acceptable}

@@ -1,8 +1,8 @@
 -- Laws of what is fed: lists joined, and one fed what another hands on.
 -- Assumes nothing.
-use mathlib.Core.List.{List, [], _∷_, _++_, append-nil}
+use mathlib.Core.List.{List, [], _∷_, _++_}
 use mathlib.Core.Option.{Option, none, some}
-use mathlib.Core.Path.{_≡_, refl, sym, ap, _∙_}
+use mathlib.Core.Path.{_≡_, refl, ap, _∙_}
 use Rattle.signalling.specs.Feeding.{Took, giving, run, rest}
 
 giving-append : {B : Type 0} (o : Option B) (xs ys : List B) → giving o (xs ++ ys) ≡ giving o xs ++ ys

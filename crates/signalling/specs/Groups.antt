@@ -1,7 +1,7 @@
 -- Clause 5.5.1 and table 7 of ETS 300 799, with T-08: the MNSC bytes of four consecutive frames make a group of eight bytes.
 -- Assumes nothing.
 use mathlib.Core.Bool.{Bool, true, false}
-use mathlib.Core.List.{List, [], _∷_, _++_}
+use mathlib.Core.List.{List, [], _++_}
 use mathlib.Core.Option.{none, some}
 use Prim.Native.Nat.{ℕ, _/_, _%_}
 use lib.Dec.{eqb}

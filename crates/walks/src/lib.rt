@@ -1,5 +1,4 @@
 // The walk over a record, on numbers and byte slices, for C.
-ghost use mathlib.Core.Path.{_≡_};
 ghost use Rattle.controller.specs.Boundary.{Told};
 ghost use Rattle.walks.specs.WalkCalls.{walkOf, begunBytes, stateRefusalOf, Limited};
 use walk::Position;

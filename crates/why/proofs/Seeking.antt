@@ -1,9 +1,9 @@
 -- What one step of the walk says of a place is true of the walk.
 -- Assumes nothing.
 use Prim.Native.Nat.{ℕ, _+_, _≤_, _<_}
-use mathlib.Core.Path.{_≡_, refl, sym, ap, subst, _∙_}
+use mathlib.Core.Path.{_≡_, refl, sym, ap, _∙_}
 use mathlib.Core.Bool.{true, false}
-use mathlib.Core.List.{List, List·Memᴰ}
+use mathlib.Core.List.{List·Memᴰ}
 use mathlib.Core.Logic.{_⊎_, inl, inr}
 use mathlib.Core.Option.{Option, none, some}
 use native.Mathlib.Omega.{arith}
@@ -16,7 +16,7 @@ use Rattle.walk.specs.ItemValues.{placeOf}
 use Rattle.walk.proofs.ByRules.{by-rules, further, never-done}
 use Rattle.walk.proofs.Looks.{step-dead, step-live, walk-ind}
 use Rattle.why.specs.declared.Reason.{Reason}
-use Rattle.why.specs.declared.Reason.the-variants.{HandedOut, Lost, SteppedOver}
+use Rattle.why.specs.declared.Reason.the-variants.{HandedOut, Lost}
 use Rattle.why.specs.declared.Found.{Found}
 use Rattle.why.specs.declared.Found.the-variants.{Hunted, At, Later}
 use Rattle.why.specs.Why.{Come, AppliesIn}

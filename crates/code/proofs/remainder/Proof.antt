@@ -8,7 +8,7 @@ use lib.Seq.{take-all}
 use Rattle.octets.specs.Words.{split}
 use Rattle.sum.specs.Sum.{bit}
 use Rattle.field.specs.Field.{twice, timesTo, times, power}
-use Rattle.code.specs.Code.{root, generator, remainder, checkBytes}
+use Rattle.code.specs.Code.{root, generator, remainder}
 use Rattle.code.specs.CodeClauses.{bytes5, five}
 use Rattle.code.proofs.CodeTurns.{remainder-more, by-generator}
 use Rattle.code.proofs.remainder.Statement.{statement}

@@ -7,7 +7,7 @@ use lib.ListN.{length, take, replicate}
 use lib.Seq.{take-all}
 use Rattle.sum.specs.Sum.{bit}
 use Rattle.field.specs.Field.{twice, timesTo, times, power}
-use Rattle.code.specs.Code.{root, generator, remainder, checkBytes}
+use Rattle.code.specs.Code.{root, generator, remainder}
 use Rattle.code.specs.CodeClauses.{fourteen, held14}
 use Rattle.code.proofs.CodeTurns.{remainder-more, by-generator}
 use Rattle.code.proofs.remainder_fourteen.Statement.{statement}

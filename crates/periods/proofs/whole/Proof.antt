@@ -2,7 +2,6 @@ use mathlib.Core.Path.{_≡_}
 use Prim.Native.Nat.{ℕ, _-_}
 use native.Mathlib.Omega.{arith}
 use borrow.Author.Tests.{leb-true, leb-false}
-use borrow.Author.Needs.{needs}
 use Rattle.periods.proofs.whole.Statement.{statement}
 use Rattle.periods.proofs.whole.Tie as tie
 

@@ -1,4 +1,3 @@
-use mathlib.Core.Path.{_∙_}
 use Rattle.walk.specs.Records.{tableOf, stepWith}
 use Rattle.walk.proofs.Limits.{outside-step, inside-step}
 use borrow.Author.Needs.{needs}
