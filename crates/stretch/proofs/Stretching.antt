@@ -18,6 +18,7 @@ use Rattle.sum.proofs.Bits.{⊕-false}
 use Rattle.sum.proofs.Shifts.{_⊞_, Kept, loaded, fed, read, load-word, word-xor}
 use Rattle.stretch.specs.Stretch.{after4, after8, afters, blank, Stands}
 use Rattle.stretch.specs.declared.Stretched.{Stretched}
+use Rattle.stretch.proofs.Computed.{computed}
 
 pub same-word : {r q : Register} → word r ≡ word q → r ≡ q
 same-word {r} {q} e = sym (load-word r) ∙ ap load e ∙ load-word q
@@ -58,12 +59,14 @@ unfolding _⊞_ load bit
 xor-blank (stages b0 b1 b2 b3 b4 b5 b6 b7 b8 b9 b10 b11 b12 b13 b14 b15) = simp ⊕-false
 
 -- the register at its beginning: its word stands for it, added to the next two bytes
-pub begun : (r : Register) (w : ℕ) → w < 2 ^ 16 → w ≡ word r → afters r (0 ∷ 0 ∷ 0 ∷ 0 ∷ []) ≡ afters blank (w * 2 ^ 48 % 2 ^ 64 ∷ 0 ∷ 0 ∷ 0 ∷ [])
+loaded-first : (w : ℕ) → w < 2 ^ 16 → after8 (load w) 0 ≡ after8 blank (w * 2 ^ 48 % 2 ^ 64)
 unfolding after8 after4 load bit
+loaded-first w h =
+    same-word (agree (read (kept8 (loaded (nth 0)) nought)) (read (kept8 at-blank (then (nth 0) (left 64 48)))) (16 ∷ []) (computed tt) (w ∷ []) (more h none))
+
+pub begun : (r : Register) (w : ℕ) → w < 2 ^ 16 → w ≡ word r → afters r (0 ∷ 0 ∷ 0 ∷ 0 ∷ []) ≡ afters blank (w * 2 ^ 48 % 2 ^ 64 ∷ 0 ∷ 0 ∷ 0 ∷ [])
 begun r w h e =
-    let first : after8 (load w) 0 ≡ after8 blank (w * 2 ^ 48 % 2 ^ 64) =
-    same-word (agree (read (kept8 (loaded (nth 0)) nought)) (read (kept8 at-blank (then (nth 0) (left 64 48)))) (16 ∷ []) refl (w ∷ []) (more h none)) in
-    ap (λ (q : Register). afters q (0 ∷ 0 ∷ 0 ∷ 0 ∷ [])) (sym (ap load e ∙ load-word r)) ∙ ap (λ (q : Register). afters q (0 ∷ 0 ∷ 0 ∷ [])) first
+    ap (λ (q : Register). afters q (0 ∷ 0 ∷ 0 ∷ 0 ∷ [])) (sym (ap load e ∙ load-word r)) ∙ ap (λ (q : Register). afters q (0 ∷ 0 ∷ 0 ∷ [])) (loaded-first w h)
 
 -- the one computed fact: a word, alone, may go, added to those 8, 22 and 32 bytes on
 alone : (q : ℕ) → q < 2 ^ 64 → afters blank (q ∷ 0 ∷ 0 ∷ 0 ∷ 0 ∷ []) ≡ afters blank (q ∷ q / 2 ^ 48 ∷ q * 2 ^ 16 % 2 ^ 64 ∷ q ∷ [])
@@ -72,7 +75,7 @@ alone q h =
     same-word
     (agree (read (kept8 (kept8 (kept8 (kept8 (kept8 at-blank (nth 0)) nought) nought) nought) nought))
     (read (kept8 (kept8 (kept8 (kept8 at-blank (nth 0)) (then (nth 0) (right 48))) (then (nth 0) (left 64 16))) (nth 0)))
-    (64 ∷ []) refl (q ∷ []) (more h none))
+    (64 ∷ []) (computed tt) (q ∷ []) (more h none))
 
 blank-on : after8 blank 0 ≡ blank
 unfolding after8 after4 load bit
@@ -94,6 +97,10 @@ ahead : (r : Register) (xs ys : List ℕ) → afters r (replicate (length ys) 0)
 ahead r xs ys h e =
     ap₂ afters (sym (xor-blank r)) (sym (xors-zero ys)) ∙ afters-xor r blank (replicate (length ys) 0) ys (length-replicate (length ys) 0)
     ∙ ap (λ (q : Register). q ⊞ afters blank ys) h ∙ sym (afters-xor blank blank xs ys e) ∙ ap (λ (q : Register). afters q (xors xs ys)) (xor-blank blank)
+
+-- so a register's word and the next word are as one word
+pub as-one : (w z : ℕ) → w < 2 ^ 16 → after8 (load w) z ≡ after8 blank (bitXor (w * 2 ^ 48 % 2 ^ 64) z)
+as-one w z h = ahead (load w) (w * 2 ^ 48 % 2 ^ 64 ∷ []) (z ∷ []) (loaded-first w h) refl
 
 module _ (r : Register) (s : Stretched) (h : Stands r s) where
   -- a turn

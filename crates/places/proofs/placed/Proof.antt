@@ -1,5 +1,6 @@
 -- `places::placed` meets its contract.
 -- Assumes nothing.
+use mathlib.Core.Path.{ap}
 use Rattle.places.specs.Places.{placeOf}
 use borrow.Author.Needs.{needs}
 use Rattle.places.proofs.placed.Statement.{statement}
@@ -7,7 +8,7 @@ use Rattle.places.proofs.placed.Tie as tie
 
 returns : tie.Need-returns
 unfolding placeOf
-returns c = cc
+returns c = rw (c .before .units .ensures .0) (ap placeOf (c .before .before .before .before .entry .ensures))
 
 pub placed-spec : {M : Type 1} → statement M
 placed-spec =

@@ -1,5 +1,5 @@
-use mathlib.Core.Path.{_≡_, refl}
-use Prim.Native.Nat.{_≤_, _<_, _-_, _*_}
+use mathlib.Core.Path.{_≡_, refl, ap, _∙_}
+use Prim.Native.Nat.{ℕ, _≤_, _<_, _-_, _*_}
 use native.Mathlib.Nat.{le-antisymm}
 use native.Mathlib.Omega.{arith}
 use borrow.Author.Needs.{needs}
@@ -27,17 +27,18 @@ loop-again : tie.Need-loop-again Inv-loop μ-loop
 loop-again c =
     let start = c .before .before .before .before .before .before .before in
     let t = start .args .t1 in
-    let i = c .before .before .before .before .before .loop .i in
+    let loop = c .before .before .before .before .before .loop in
     let e : length t ≡ 64 = start .good .0 .1 .0 .1 in
-    let h : i < length t = omega arith in
-    (search needs, cc (wider-take t i h), cc (above-take t i h 684), cc (total-take t i h), search needs)
+    let h : loop .i < length t = omega arith in
+    (search needs, rw (loop .inv .1, c .before .before .stream-wider .ensures, wider-take t (loop .i) h), rw (loop .inv .2, above-take t (loop .i) h 684), rw (loop .inv .3, total-take t (loop .i) h), search needs)
 
 returns : tie.Need-returns Inv-loop μ-loop
 returns c =
     let start = c .before .before .before in
-    let e = le-antisymm (c .before .loop .inv .0) (c .loop-test .left) in
-    let l = take-least (start .args .t1) (start .args .count) (start .good .0 .1 .0 .1) in
-    (cc, cc, cc)
+    let loop = c .before .loop in
+    let e = le-antisymm (loop .inv .0) (c .loop-test .left) ∙ c .before .before .entries .ensures .0 in
+    let all = ap (λ (k : ℕ). take k (start .args .t1)) e ∙ take-least (start .args .t1) (start .args .count) (start .good .0 .1 .0 .1) in
+    (loop .inv .1 ∙ ap someStreamWider all, loop .inv .2 ∙ ap (someStlAbove 684) all, loop .inv .3 ∙ ap stlTotal all)
 
 pub look-over-spec : {M : Type 1} → statement M
 look-over-spec =

@@ -5,7 +5,8 @@ use Rattle.refusing.proofs.wide.Tie as tie
 
 returns : tie.Need-returns
 unfolding wider
-returns c = cc
+returns c =
+    rw (c .before .before .before .head-wider .ensures, c .before .time-wider .ensures, c .before .before .look-over .ensures .0)
 
 pub wide-spec : {M : Type 1} → statement M
 wide-spec =

@@ -10,10 +10,14 @@ returns : tie.Need-returns
 returns c = let s = c .before .before .before .args in none-between (s .bytes .now) (s .a) (s .e) (omega arith)
 
 returns-2 : tie.Need-returns-2
-returns-2 c = let s = c .before .before .before .before .before .before .args in cc (some-between (s .bytes .now) (s .a) (s .e))
+returns-2 c =
+    let s = c .before .before .before .before .before .before .args in
+    rw (c .sum .ensures, c .before .before .before .before .least .ensures, some-between (s .bytes .now) (s .a) (s .e))
 
 returns-3 : tie.Need-returns-3
-returns-3 c = let s = c .before .before .before .before .before .before .args in cc (some-between (s .bytes .now) (s .a) (s .e))
+returns-3 c =
+    let s = c .before .before .before .before .before .before .args in
+    rw (c .many .ensures, c .before .before .before .before .least .ensures, some-between (s .bytes .now) (s .a) (s .e))
 
 pub sum-between-spec : {M : Type 1} → statement M
 sum-between-spec =
