@@ -8,7 +8,7 @@ use native.Mathlib.Nat.{zero-mul, mul-le-mul, mul-le-mul-right, div-le-self}
 use native.Mathlib.Omega.{arith}
 use borrow.Author.Tests.{eq-eqb, ne-eqb, eqb-true, eqb-false, le-ltb, ltb-false, le-leb, lt-leb, leb-true}
 use lib.Dec.{eqb, ltb, leb}
-use lib.ListN.{length, getD, List·getD-eq-default}
+use lib.ListN.{getD, List·getD-eq-default}
 use Rattle.octets.specs.Choice.{pick, placeIn}
 use Rattle.capacity.specs.Sizes.{rates, stls, unequalSizes, unequalSize, equalA, equalB, perN, equalSize, sizeBy, unitsBy, equalIn}
 

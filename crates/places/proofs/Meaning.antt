@@ -8,7 +8,7 @@ use native.Mathlib.Omega.{arith}
 use borrow.Author.Tests.{ne-eqb, eqb-true, eqb-false, lt-ltb, ltb-true, ltb-false, lt-leb, leb-true, leb-false}
 use lib.Dec.{eqb, ltb, leb}
 use lib.ListN.{length, getD}
-use Rattle.frame.specs.Rules.{_when_, first, NoneHold, FirstToHold, Settled, rulesOf, refusalOf}
+use Rattle.frame.specs.Rules.{first, NoneHold, FirstToHold, Settled, rulesOf, refusalOf}
 use Rattle.frame.proofs.Accepting.{nothing}
 use Rattle.frame.proofs.FirstRule.{only, given, none-hold, none-first, first-zero, first-found}
 use Rattle.places.specs.declared.Place.{Place}

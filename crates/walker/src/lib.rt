@@ -3,7 +3,7 @@
 ghost use mathlib.Core.Path.{_≡_};
 ghost use Rattle.frame.specs.Answers.{PartAt};
 ghost use Rattle.walk.specs.Records.{stepAt, stateAfter};
-ghost use Rattle.walker.specs.Advance.{periodPart, heldPart, FrameAt, startOf, started, advanced, nthOf, itemOf};
+ghost use Rattle.walker.specs.Advance.{periodPart, heldPart, FrameAt, started, advanced, nthOf, itemOf};
 ghost use Rattle.walker.specs.NthClauses.{beginning, endsAt};
 use frame::Stream;
 use walk::Begun;

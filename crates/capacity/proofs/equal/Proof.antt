@@ -1,7 +1,6 @@
 -- `capacity::equal` meets its contract.
 -- Assumes nothing.
 use Rattle.capacity.proofs.SizeLaws.{equal-a, equal-b, equal-none}
-use native.Mathlib.Omega.{arith}
 use borrow.Author.Needs.{needs}
 use Rattle.capacity.proofs.equal.Statement.{statement}
 use Rattle.capacity.proofs.equal.Tie as tie

@@ -1,7 +1,6 @@
 -- `capacity::size` meets its contract.
 -- Assumes nothing.
 use Rattle.capacity.proofs.SizeLaws.{size-equal, size-other, size-unequal}
-use native.Mathlib.Omega.{arith}
 use borrow.Author.Needs.{needs}
 use Rattle.capacity.proofs.size.Statement.{statement}
 use Rattle.capacity.proofs.size.Tie as tie

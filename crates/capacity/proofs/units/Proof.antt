@@ -1,7 +1,6 @@
 -- `capacity::units` meets its contract.
 -- Assumes nothing.
 use Rattle.capacity.proofs.SizeLaws.{taken-none, taken-some}
-use native.Mathlib.Omega.{arith}
 use borrow.Author.Needs.{needs}
 use Rattle.capacity.proofs.units.Statement.{statement}
 use Rattle.capacity.proofs.units.Tie as tie

@@ -1,7 +1,6 @@
 -- `ring::mixed` meets its contract: exclusive ors of bytes are below 256.
 -- Assumes nothing.
 use mathlib.Core.Path.{refl}
-use Prim.Native.Nat.{_-_}
 use lib.Bits.{xor-lt}
 use Rattle.ring.proofs.mixed.Statement.{statement}
 use Rattle.ring.proofs.mixed.Tie as tie

@@ -1,7 +1,6 @@
 -- `ring::one` meets its contract, by the law of one byte that is fed back.
 -- Assumes nothing.
 use mathlib.Core.Path.{_∙_}
-use Prim.Native.Nat.{_-_}
 use borrow.Author.Needs.{needs}
 use lib.ListN.{length-set}
 use Rattle.ring.proofs.Turning.{taken}

@@ -1,10 +1,8 @@
 -- `walker::nth` meets its contract.
 -- Assumes nothing.
-use mathlib.Core.Path.{_≡_, ap, _∙_}
-use Rattle.walk.specs.declared.State.{State}
+use mathlib.Core.Path.{ap, _∙_}
 use Rattle.walk.specs.declared.Step.{Step}
 use Rattle.walk.specs.Records.{stepAt, stateAfter}
-use Rattle.walker.specs.NthClauses.{beginning}
 use Rattle.walker.specs.declared.Beginning.{Beginning}
 use Rattle.walker.proofs.Items.{nth-item}
 use borrow.Author.Needs.{needs}
