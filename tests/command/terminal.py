@@ -12,6 +12,8 @@ import time
 
 COMMAND, ROOM = sys.argv[1:]
 bad = 0
+# a shell that runs the gate in the background has it ignored, and so would the command
+signal.signal(signal.SIGINT, signal.SIG_DFL)
 
 
 def hold(what, right):
