@@ -1,7 +1,7 @@
-# make run: lists a record, samples/four.eti or RECORD=file. make example: the same from C. make line-example: the same of a live line, from standard input. make test: the gate.
+# make run: lists a record, samples/four.eti or RECORD=file. make example: the same from C. make live-example: the same of a live line, from standard input. make test: the gate.
 # make command: the command spindlewren, for engineers. make install PREFIX=..: command, headers, static library, pkg-config file, manual page and BOUNDARY.md; make uninstall.
 # make rows: the bench figures. make soak: a gigabyte through a pipe, then the comparison with the Rust implementation for SECONDS, from SEED on. make bench: times.
-.PHONY: run rows example line-example command install uninstall soak bench test
+.PHONY: run rows example live-example command install uninstall soak bench test
 RECORD = samples/four.eti
 SECONDS = 600
 SEED = $(shell date +%s)
@@ -20,17 +20,17 @@ target/example/controller: examples/controller.c include/spindlewren.h $(shell f
 	@$(CC) -std=c99 -O2 -Wall -Wextra -Wpedantic -Werror -Iinclude examples/controller.c "$$(tools/archive controller)" "$$(tools/archive walks)" "$$(tools/archive sizing)" "$$(tools/archive profiles)" -o $@
 
 # the line from standard input
-line-example: target/example/line
-	@target/example/line
+live-example: target/example/live
+	@target/example/live
 
-target/example/line: examples/line.c include/spindlewren.h $(shell find crates crates.txt -type f)
+target/example/live: examples/live.c include/spindlewren.h $(shell find crates crates.txt -type f)
 	@mkdir -p target/example
-	@$(CC) -std=c99 -O2 -Wall -Wextra -Wpedantic -Werror -Iinclude examples/line.c "$$(tools/archive controller)" "$$(tools/archive walks)" "$$(tools/archive living)" -o $@
+	@$(CC) -std=c99 -O2 -Wall -Wextra -Wpedantic -Werror -Iinclude examples/live.c "$$(tools/archive controller)" "$$(tools/archive walks)" "$$(tools/archive living)" -o $@
 
 command: target/command/spindlewren
 	@echo "$(CURDIR)/target/command/spindlewren"
 
-target/command/spindlewren: Makefile $(wildcard command/* include/*) tools/library $(shell find crates crates.txt -type f)
+target/command/spindlewren: Makefile $(wildcard command/* include/*) tools/archives tools/library $(shell find crates crates.txt -type f)
 	@mkdir -p target/command
 	@$(CC) -std=c99 -O2 -Wall -Wextra -Wpedantic -Werror -DVERSION='"$(VERSION)"' -Iinclude command/*.c "$$(tools/library)" -o $@
 

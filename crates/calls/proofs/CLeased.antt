@@ -21,7 +21,7 @@ use Rattle.remade.specs.ReadAlike.{ReadAlike}
 use Rattle.remade.specs.Remaking.{MakesFrame}
 use Rattle.remade.proofs.Again.{same-reading, same-frame}
 use Rattle.lines.specs.LinesBoundary.{variantRefusal, widthBy, isOther}
-use Rattle.calls.specs.LineTrips.{Trip, Lengths, Sendable}
+use Rattle.calls.specs.LeasedTrips.{Trip, Lengths, Sendable}
 
 -- a variant is the most that it carries
 number : (v : ℕ) → variantRefusal v ≡ 0 → carried (widthBy v) ≡ v

@@ -1,4 +1,4 @@
-pub mod CLine
-pub mod CLineDemand3
+pub mod CLive
+pub mod CLiveDemand3
 pub mod CLeased
 pub mod SuppositionsMet

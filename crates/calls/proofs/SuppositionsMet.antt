@@ -17,7 +17,7 @@ use Rattle.frame.proofs.Accepting.{acceptable}
 use Rattle.walk.specs.Records.{allowed}
 use Rattle.controller.specs.Boundary.{lentRefusal}
 use Rattle.walks.specs.WalkCalls.{begunBytes}
-use Rattle.living.specs.LiveBytes.{liveRefusalOf, lineOf}
+use Rattle.living.specs.LiveBytes.{liveRefusalOf, liveOf}
 use Rattle.array.specs.CodingArray.{Parts, lent}
 use Rattle.array.specs.PartLengths.{Sized}
 use Rattle.array.specs.OutputArray.{outputOf, partsOf}
@@ -25,18 +25,18 @@ use Rattle.line.specs.NetworkOut.{logicalLength, withFrame, frameRefusal}
 use Rattle.homeward.specs.WayBack.{backRefusal}
 use Rattle.remade.specs.Remaking.{frameMade, makingRefusal}
 use Rattle.lines.specs.LinesBoundary.{digit, variantRefusal, widthBy, isOther}
-use Rattle.calls.specs.LiveCalls.{lentOf, Calls, Line, begins}
-use Rattle.calls.specs.LineTrips.{Trip, Lengths, Sendable}
-use Rattle.calls.proofs.CLine.{call-is-step}
+use Rattle.calls.specs.LiveCalls.{lentOf, Calls, LiveLine, begins}
+use Rattle.calls.specs.LeasedTrips.{Trip, Lengths, Sendable}
+use Rattle.calls.proofs.CLive.{call-is-step}
 
 -- a line is begun
-pub begun : (m : ℕ) → allowed m ≡ true → Line m 1 [] (begunBytes m) []
+pub begun : (m : ℕ) → allowed m ≡ true → LiveLine m 1 [] (begunBytes m) []
 begun m e = begins {was = replicate 23 0} (record { number = rw e; answer = refl })
 
 -- at every time there is a call that is not refused
-pub goes-on : {m more : ℕ} {came w : List ℕ} {ws : List (List ℕ)} → Line m more came w ws → (left : List ℕ) × Calls more came w left 0
+pub goes-on : {m more : ℕ} {came w : List ℕ} {ws : List (List ℕ)} → LiveLine m more came w ws → (left : List ℕ) × Calls more came w left 0
 goes-on {m} {more} {came} {w} {ws} l =
-    let left = pick (eqb (lentRefusal 23 (length w) (liveRefusalOf more w)) 0) (lineOf (lentOf came w) more w) w in
+    let left = pick (eqb (lentRefusal 23 (length w) (liveRefusalOf more w)) 0) (liveOf (lentOf came w) more w) w in
     let c : Calls more came w left (lentRefusal 23 (length w) (liveRefusalOf more w)) = record { number = refl; answer = refl } in
     (left, subst (λ (r : ℕ). Calls more came w left r) (call-is-step l c .0) c)
 

@@ -1,2 +1,2 @@
 pub mod LiveCalls
-pub mod LineTrips
+pub mod LeasedTrips

@@ -15,7 +15,7 @@ use Rattle.controller.specs.Boundary.{Told}
 use Rattle.block.specs.WalkBytes.{itemFct, itemLevel, stateIn}
 use Rattle.walks.specs.WalkCalls.{begunBytes, Limited}
 use Rattle.lasting.specs.LiveRuns.{Run}
-use Rattle.living.specs.LiveBytes.{liveRefusalOf, lineOf}
+use Rattle.living.specs.LiveBytes.{liveRefusalOf, liveOf}
 
 -- the window that is lent: of all the bytes that have come, those from the place in the walk's bytes on
 abbrev pub lentOf : List ℕ → List ℕ → List ℕ
@@ -23,15 +23,15 @@ lentOf came w = drop (eightAt w 0) came
 
 -- a call of `spindlewren_live` answers r and leaves `left`
 abbrev pub Calls : ℕ → List ℕ → List ℕ → List ℕ → ℕ → Type 0
-Calls more came w left r = Told 23 (liveRefusalOf more w) (lineOf (lentOf came w) more w) w left r
+Calls more came w left r = Told 23 (liveRefusalOf more w) (liveOf (lentOf came w) more w) w left r
 
 -- A LINE FROM C with limit m: `more` is 1, and 0 once the line has ended; `came` are all the bytes that have come, w is what the walk's bytes hold, ws is what each call left in them.
 -- `spindlewren_begin` answered 0; then pieces of any length come and calls are made, in any order, and at some time the line may end.
-pub data Line (m : ℕ) : ℕ → List ℕ → List ℕ → List (List ℕ) → Type 0 where
-  begins : {was w : List ℕ} → Limited m 23 (begunBytes m) was w 0 → Line m 1 [] w []
-  comes : {came w : List ℕ} {ws : List (List ℕ)} → Line m 1 came w ws → (piece : List ℕ) → Line m 1 (came ++ piece) w ws
-  ends : {came w : List ℕ} {ws : List (List ℕ)} → Line m 1 came w ws → Line m 0 came w ws
-  calls : {more r : ℕ} {came w left : List ℕ} {ws : List (List ℕ)} → Line m more came w ws → Calls more came w left r → Line m more came left (ws ++ (left ∷ []))
+pub data LiveLine (m : ℕ) : ℕ → List ℕ → List ℕ → List (List ℕ) → Type 0 where
+  begins : {was w : List ℕ} → Limited m 23 (begunBytes m) was w 0 → LiveLine m 1 [] w []
+  comes : {came w : List ℕ} {ws : List (List ℕ)} → LiveLine m 1 came w ws → (piece : List ℕ) → LiveLine m 1 (came ++ piece) w ws
+  ends : {came w : List ℕ} {ws : List (List ℕ)} → LiveLine m 1 came w ws → LiveLine m 0 came w ws
+  calls : {more r : ℕ} {came w left : List ℕ} {ws : List (List ℕ)} → LiveLine m more came w ws → Calls more came w left r → LiveLine m more came left (ws ++ (left ∷ []))
 
 -- WHAT C SEES of an item: kind, refusal number, place, FCT and level, twelve bytes
 abbrev pub itemBytes : Out → List ℕ

@@ -26,7 +26,7 @@ use Rattle.live.proofs.FirstPlaces.{standing-clear}
 use Rattle.live.proofs.LiveParts.{wants-allowed, wants-few, near-step}
 use Rattle.live.proofs.WindowSteps.{lock-gives}
 use Rattle.lasting.specs.LiveRuns.{needed}
-use Rattle.lasting.proofs.LineSteps.{done-later}
+use Rattle.lasting.proofs.LiveSteps.{done-later}
 
 -- a step that gives an item goes further
 goes-ahead : (w : List ℕ) (s : State) → isDone (stepAt w s .item) ≡ false → s .position .place < stepAt w s .walk .position .place

@@ -1,6 +1,6 @@
 pub mod Sights
 pub mod Shifted
-pub mod LineSteps
+pub mod LiveSteps
 pub mod GoingOn
-pub mod LineRuns
-pub mod LineDemand3
+pub mod LiveLaws
+pub mod LiveDemand3

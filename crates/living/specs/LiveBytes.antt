@@ -47,8 +47,8 @@ abbrev pub heldBy : LiveStep → List ℕ
 heldBy r = liveBytes (r .told) (r .walk)
 
 -- a walk's bytes w after a step over a window of the line
-abbrev pub lineOf : List ℕ → ℕ → List ℕ → List ℕ
-lineOf window more w = heldBy (liveAt window (eqb more 1) (stateIn w))
+abbrev pub liveOf : List ℕ → ℕ → List ℕ → List ℕ
+liveOf window more w = heldBy (liveAt window (eqb more 1) (stateIn w))
 
 -- the lock is one bit, and so is `more`: above 1 it is a value wider than its field
 unfoldable pub liveRefusalOf : ℕ → List ℕ → ℕ

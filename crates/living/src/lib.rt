@@ -7,7 +7,7 @@ ghost use lib.ListN.{length};
 ghost use Rattle.octets.specs.Stores.{put};
 ghost use Rattle.controller.specs.Boundary;
 ghost use Rattle.live.specs.Live.{liveAt, waitingAt};
-ghost use Rattle.living.specs.LiveBytes.{liveBytes, liveRefusalOf, lineOf};
+ghost use Rattle.living.specs.LiveBytes.{liveBytes, liveRefusalOf, liveOf};
 use live::Told;
 use walk::State;
 
@@ -58,7 +58,7 @@ fn put_live(out: &mut [u8], walk: State, told: Told)
 // bytes of another length, then 12 for a lock or a `more` above 1; refused, not one byte is written.
 #[no_mangle]
 pub extern "C" fn spindlewren_live(window: &[u8], more: u8, walk: &mut [u8]) -> u8
-    ensures { λ r. ⌜ Boundary.Told 23 (liveRefusalOf more (now (walk .entry))) (lineOf (now (window .entry)) more (now (walk .entry))) (now (walk .entry)) (now (walk .exit)) r ⌝ }
+    ensures { λ r. ⌜ Boundary.Told 23 (liveRefusalOf more (now (walk .entry))) (liveOf (now (window .entry)) more (now (walk .entry))) (now (walk .entry)) (now (walk .exit)) r ⌝ }
 {
     if walk.len() != 23 {
         return 1;

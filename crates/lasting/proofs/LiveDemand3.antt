@@ -22,7 +22,7 @@ use Rattle.live.specs.declared.Told.{Told}
 use Rattle.live.specs.declared.Told.the-variants.{Got, More}
 use Rattle.live.specs.Live.{isDone, far}
 use Rattle.lasting.specs.LiveRuns.{handedBy, handed, called, Run, starts, comes, ends, steps}
-use Rattle.lasting.proofs.LineRuns.{run-even}
+use Rattle.lasting.proofs.LiveLaws.{run-even}
 
 -- ---- what is handed out but for done
 unfoldable carried : List Out → List Out
@@ -82,9 +82,9 @@ but-done : (xs : List Out) (n p : ℕ) → carried xs ≡ xs → carried (xs ++ 
 but-done xs n p e = carried-join xs (replicate n (doneOut p)) ∙ ap₂ (λ (a b : List Out). a ++ b) e (carried-done n p) ∙ append-nil xs
 
 -- DEMAND 3, FIRST PART, OF A LIVE LINE, over the limit m: whenever more bytes are wanted and what has come ends with more than m intact frames, the m-th of them and each later one have been handed out, in order, each once, and nothing else from there on
-pub line-intact : {m : ℕ} (ok : Allowed m) {came : List ℕ} {s : State} {xs : List Out} → Run m true came s xs → length came < far → (q : ℕ) → called came true s .told ≡ More q →
+pub live-intact : {m : ℕ} (ok : Allowed m) {came : List ℕ} {s : State} {xs : List Out} → Run m true came s xs → length came < far → (q : ℕ) → called came true s .told ≡ More q →
     (a n : ℕ) → EndsIn came a n → m < n → outSince (a + (m - 1) * 6144) xs ≡ framesOut came (a + (m - 1) * 6144) (n - (m - 1))
-line-intact {m} ok {came} {s} {xs} r h q e a n E enough =
+live-intact {m} ok {came} {s} {xs} r h q e a n E enough =
     let c = a + (m - 1) * 6144 in
     let fs = framesOut came c (n - (m - 1)) in
     let (p, all) = run-even ok r h q e in
@@ -96,9 +96,9 @@ line-intact {m} ok {came} {s} {xs} r h q e a n E enough =
     ∙ but-done fs k (length came) (carried-frames came (n - (m - 1)) c)
 
 -- .. in the demand's own words: of at least four the third and every later one
-pub line-demand-3-first : {came : List ℕ} {s : State} {xs : List Out} → Run 3 true came s xs → length came < far → (q : ℕ) → called came true s .told ≡ More q →
+pub live-demand-3-first : {came : List ℕ} {s : State} {xs : List Out} → Run 3 true came s xs → length came < far → (q : ℕ) → called came true s .told ≡ More q →
     (a n : ℕ) → EndsIn came a n → 4 ≤ n → outSince (a + 2 * 6144) xs ≡ framesOut came (a + 2 * 6144) (n - 2)
-line-demand-3-first r h q e a n E f = line-intact (lit< tt, lit< tt) r h q e a n E f
+live-demand-3-first r h q e a n E f = live-intact (lit< tt, lit< tt) r h q e a n E f
 
 -- ---- the second part
 period-not-done : (bytes : List ℕ) (p : ℕ) → isDone (periodOut bytes p .item) ≡ false
@@ -137,11 +137,11 @@ behind (x ∷ a) b [] d l e = absurd (omega arith)
 behind (x ∷ a) b (y ∷ c) d l e = behind a b c d (omega arith) (cc)
 
 -- DEMAND 3, SECOND PART, OF A LIVE LINE: whenever more bytes are wanted, a frame that has been handed out is followed by one item for each period that has come, until as many in a row as the limit are refused for another reason than 4
-pub line-periods : {m : ℕ} (ok : Allowed m) {came : List ℕ} {s : State} {xs : List Out} → Run m true came s xs → length came < far → (q : ℕ) → called came true s .told ≡ More q →
+pub live-periods : {m : ℕ} (ok : Allowed m) {came : List ℕ} {s : State} {xs : List Out} → Run m true came s xs → length came < far → (q : ℕ) → called came true s .told ≡ More q →
     (earlier : List Out) (x : Out) (later : List Out) → xs ≡ earlier ++ (x ∷ later) → (p : ℕ) (head : Header) → x .item ≡ Frame p head →
     (n : ℕ) → p + 6144 + n * 6144 ≤ length came → UnbrokenIn m came (p + 6144) n → (ys : List Out) × (later ≡ periodsOut came (p + 6144) n ++ ys)
 unfolding callsAt
-line-periods {m} ok {came} {s} {xs} r h q e earlier x later i p head f n room u =
+live-periods {m} ok {came} {s} {xs} r h q e earlier x later i p head f n room u =
     let (d, all) = run-even ok r h q e in
     let at = stateAfter came (length earlier) (start m) in
     let j = length later in

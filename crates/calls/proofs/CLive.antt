@@ -25,13 +25,13 @@ use Rattle.live.specs.declared.Told.the-variants.{Got, More}
 use Rattle.live.specs.Live.{atStart, later, laterItem, laterStep, isDone, wants, spare, telling, tellingAt, waiting, waitingAt, overAt, far, liveAt}
 use Rattle.live.proofs.LiveParts.{far-step, near-step, fits}
 use Rattle.lasting.specs.LiveRuns.{handedBy, handed, called, Run, starts, comes, ends, steps}
-use Rattle.lasting.proofs.LineSteps.{spare-inside}
+use Rattle.lasting.proofs.LiveSteps.{spare-inside}
 use Rattle.block.specs.WalkBytes.{toldBytes, stateIn}
 use Rattle.walks.specs.WalkCalls.{begunBytes, Limited}
 use Rattle.walks.proofs.CWalk.{Held, state-back, left-whole, left-lock, answered, begun-begins, few-misses}
-use Rattle.living.specs.LiveBytes.{toldPlace, liveBytes, heldBy, lineOf, liveRefusalOf}
+use Rattle.living.specs.LiveBytes.{toldPlace, liveBytes, heldBy, liveOf, liveRefusalOf}
 use Rattle.living.proofs.LiveStored.{both-fit}
-use Rattle.calls.specs.LiveCalls.{lentOf, Calls, Line, begins, comes, ends, calls, itemBytes, holdsItem, seenSince, IsRun}
+use Rattle.calls.specs.LiveCalls.{lentOf, Calls, LiveLine, begins, comes, ends, calls, itemBytes, holdsItem, seenSince, IsRun}
 
 -- ---- the bytes hold what a step hands back: its walk, and the place of what is told
 record Fits (r : LiveStep) : Type 0 where
@@ -137,7 +137,7 @@ module _ (more r : ℕ) (came w left : List ℕ) (S : Sound more w) (c : Calls m
 
   one-call : (r ≡ 0) × (left ≡ heldBy step)
   unfolding stateIn
-  one-call = answered (liveRefusalOf more w) (lineOf (lentOf came w) more w) w left r c (S .whole) (both-fit more w (S .lock) (S .bit))
+  one-call = answered (liveRefusalOf more w) (liveOf (lentOf came w) more w) w left r c (S .whole) (both-fit more w (S .lock) (S .bit))
 
   walk-back : stateIn left ≡ step .walk
   unfolding liveBytes
@@ -157,13 +157,13 @@ begun-left : {m : ℕ} {was w : List ℕ} → Limited m 23 (begunBytes m) was w 
 begun-left {m} l = (allowed-is m (by-limit m _ (λ e. e) (λ e. let n = l .number in number-allowed m (sym (rw e at n)))), l .answer)
 
 -- the limit is allowed, for the walk was begun with it
-pub line-allowed : {m more : ℕ} {came w : List ℕ} {ws : List (List ℕ)} → Line m more came w ws → Allowed m
-line-allowed (begins l) = begun-left l .0
-line-allowed (comes l piece) = line-allowed l
-line-allowed (ends l) = line-allowed l
-line-allowed (calls l c) = line-allowed l
+pub live-allowed : {m more : ℕ} {came w : List ℕ} {ws : List (List ℕ)} → LiveLine m more came w ws → Allowed m
+live-allowed (begins l) = begun-left l .0
+live-allowed (comes l piece) = live-allowed l
+live-allowed (ends l) = live-allowed l
+live-allowed (calls l c) = live-allowed l
 
-sound : {m more : ℕ} {came w : List ℕ} {ws : List (List ℕ)} → Line m more came w ws → Sound more w
+sound : {m more : ℕ} {came w : List ℕ} {ws : List (List ℕ)} → LiveLine m more came w ws → Sound more w
 unfolding begunBytes stateIn
 sound {m} (begins l) =
     let (ok, e) = begun-left l in
@@ -173,12 +173,12 @@ sound (ends l) = let S = sound l in record { whole = S .whole; lock = S .lock; h
 sound (calls {more} {r} {came} {w} {left} l c) = next-sound more r came w left (sound l) c
 
 -- A CALL IS A STEP: it answers 0, it leaves the bytes of what live's step hands back over the window of the walk that is in the walk's bytes, and the walk that is then in them is the advanced one
-pub call-is-step : {m more r : ℕ} {came w left : List ℕ} {ws : List (List ℕ)} → Line m more came w ws → Calls more came w left r →
+pub call-is-step : {m more r : ℕ} {came w left : List ℕ} {ws : List (List ℕ)} → LiveLine m more came w ws → Calls more came w left r →
     (r ≡ 0) × (left ≡ heldBy (called came (eqb more 1) (stateIn w))) × (stateIn left ≡ called came (eqb more 1) (stateIn w) .walk)
 call-is-step {more = more} {r} {came} {w} {left} l c = let S = sound l in let o = one-call more r came w left S c in (o .0, o .1, walk-back more r came w left S c)
 
 -- and the place of what it tells is the one in the bytes that it leaves
-pub told-place : {m more r : ℕ} {came w left : List ℕ} {ws : List (List ℕ)} → Line m more came w ws → Calls more came w left r → eightAt left 13 ≡ toldPlace (called came (eqb more 1) (stateIn w) .told)
+pub told-place : {m more r : ℕ} {came w left : List ℕ} {ws : List (List ℕ)} → LiveLine m more came w ws → Calls more came w left r → eightAt left 13 ≡ toldPlace (called came (eqb more 1) (stateIn w) .told)
 unfolding liveBytes toldBytes
 told-place {more = more} {r} {came} {w} {left} l c =
     let S = sound l in
@@ -190,7 +190,7 @@ pub record Behind (m more : ℕ) (came w : List ℕ) (ws : List (List ℕ)) : Ty
   pub is : IsRun m more came w ws
   pub small : Small (is .outs)
 
-pub behind : {m more : ℕ} {came w : List ℕ} {ws : List (List ℕ)} → Line m more came w ws → Behind m more came w ws
+pub behind : {m more : ℕ} {came w : List ℕ} {ws : List (List ℕ)} → LiveLine m more came w ws → Behind m more came w ws
 unfolding seenSince outSince Small
 behind {m} (begins l) =
     record {
@@ -220,5 +220,5 @@ behind {m} (calls {more} {r} {came} {w} {left} {ws} l k) =
     }
 
 -- A LINE FROM C IS A RUN, so all that is said of runs holds of it
-pub line-is-run : {m more : ℕ} {came w : List ℕ} {ws : List (List ℕ)} → Line m more came w ws → IsRun m more came w ws
-line-is-run l = behind l .is
+pub live-is-run : {m more : ℕ} {came w : List ℕ} {ws : List (List ℕ)} → LiveLine m more came w ws → IsRun m more came w ws
+live-is-run l = behind l .is

@@ -20,7 +20,7 @@ use Rattle.live.specs.declared.Told.the-variants.{Got, More}
 use Rattle.live.specs.Live.{isDone, telling, waiting, far}
 use Rattle.live.proofs.WindowSteps.{is-done}
 use Rattle.lasting.specs.LiveRuns.{handedBy, handed, window, called, Run, starts, comes, ends, steps, needed, Right, Faithful, Complete}
-use Rattle.lasting.proofs.LineSteps.{room, live-right, live-end, live-inside, all-done}
+use Rattle.lasting.proofs.LiveSteps.{room, live-right, live-end, live-inside, all-done}
 use Rattle.lasting.proofs.GoingOn.{Fresh, fresh-wants, live-fresh, progress, kept, kept-place, got-goes, shows-none}
 
 -- ---- one step that is right keeps the run faithful
