@@ -2,13 +2,13 @@
 -- Assumes nothing.
 use mathlib.Core.Path.{_≡_, refl, ap, subst, _∙_}
 use mathlib.Core.Bool.{Bool, true, false}
-use mathlib.Core.List.{List}
-use Prim.Native.Nat.{ℕ, _-_}
+use mathlib.Core.List.{List, []}
+use Prim.Native.Nat.{ℕ, _-_, _<_}
 use borrow.Author.Tests.{ne-eqb}
 use lib.ListN.{length, getD}
 use Rattle.array.specs.CodingArray.{widthOf}
-use Rattle.array.specs.OutputArray.{place, arrayRow}
-use Rattle.array.proofs.Filling.{list-length}
+use Rattle.array.specs.OutputArray.{place, arrayRow, arrayOf}
+use Rattle.array.proofs.Filling.{list-length, list-at}
 use Rattle.code.specs.Code.{isClean}
 use Rattle.code.specs.CodeAnswers.{rowRefusal, Tests}
 use Rattle.code.specs.declared.TestedRow.{TestedRow}
@@ -17,6 +17,11 @@ use Rattle.homeward.specs.RowsClean.{digit, cleanRow, cleanRows, rowsRef
 row-length : (o : List ℕ) (i : ℕ) → length (arrayRow o i) ≡ 240
 unfolding arrayRow
 row-length o i = list-length (λ j. getD o (place i j) 0) 240
+
+-- row i of the coding array
+pub array-row : (o : List ℕ) (xs : List (List ℕ)) (i : ℕ) → xs ≡ arrayOf o → i < 24 → getD xs i [] ≡ arrayRow o i
+unfolding arrayOf
+array-row o xs i e h = ap (λ (c : List (List ℕ)). getD c i []) e ∙ list-at (arrayRow o) [] 24 i h
 
 -- the test of a row of an array
 tested : (fourteen : Bool) (o row : List ℕ) (i : ℕ) (t : TestedRow) → row ≡ arrayRow o i → Tests row (240 - widthOf fourteen) t → t .clean ≡ isClean (240 - widthOf fourteen) (arrayRow o i)

@@ -6,7 +6,7 @@ ghost use lib.ListN.{length};
 ghost use Rattle.octets.specs.Stores.{put};
 ghost use Rattle.array.specs.Listed.{list};
 ghost use Rattle.array.specs.CodingArray.{widthOf, Wide, superblock, carried, lent};
-ghost use Rattle.array.specs.OutputArray.{interleaved, gBytesOf};
+ghost use Rattle.array.specs.OutputArray.{interleaved, arrayRow, arrayOf, gBytesOf};
 ghost use Rattle.homeward.specs.BackClauses.{stepped, Reaches, interleavingOf, cell, byteOf, blockOf, checkByteOf, Out, NextRow, Room, HandsOut};
 ghost use Rattle.homeward.specs.WayBack.{Returns};
 ghost use Rattle.homeward.specs.RowsClean.{cleanRow, cleanRows, TellsRows};
@@ -193,12 +193,25 @@ fn array_row(array: &[u8], i: usize) -> [u8; 240]
     row
 }
 
-// 1 where row i of the coding array is clean, else 0.
-fn clean_row(array: &[u8], fourteen: bool, i: usize) -> u8
-    requires { ⌜ (length (now array) ≡ 5760) × (i < 24) ⌝ }
-    ensures { λ r. ⌜ ((o : List ℕ) → now (array .entry) ≡ interleavingOf o → r ≡ cleanRow (widthOf fourteen) o i) ⌝ }
+// The coding array of an interleaving array.
+fn coding_array(array: &[u8]) -> [[u8; 240]; 24]
+    requires { ⌜ length (now array) ≡ 5760 ⌝ }
+    ensures { λ r. ⌜ ((o : List ℕ) → now (array .entry) ≡ interleavingOf o → r ≡ arrayOf o) ⌝ }
 {
-    let row = array_row(array, i);
+    let empty = [0u8; 240];
+    let mut coding = [empty; 24];
+    let mut i = 0;
+    while i < 24 {
+        coding[i] = array_row(array, i);
+        i += 1;
+    }
+    coding
+}
+
+// 1 where a row of the coding array is clean, else 0.
+fn clean_row(row: [u8; 240], fourteen: bool) -> u8
+    ensures { λ r. ⌜ ((o : List ℕ) → (i : ℕ) → row ≡ arrayRow o i → r ≡ cleanRow (widthOf fourteen) o i) ⌝ }
+{
     let tested = code::test_row(&row, 240 - array::width(fourteen));
     if tested.clean {
         return 1;
@@ -210,10 +223,10 @@ fn put_rows(output: &[u8], fourteen: bool, clean: &mut [u8])
     requires { ⌜ (length (now output) ≡ 6144) × (length (now clean) ≡ 24) ⌝ }
     ensures { λ _. ⌜ now (clean .exit) ≡ cleanRows (widthOf fourteen) (now (output .entry)) ⌝ }
 {
-    let array = interleaving(output);
+    let coding = coding_array(&interleaving(output));
     let mut i = 0;
     while i < clean.len() {
-        clean[i] = clean_row(&array, fourteen, i);
+        clean[i] = clean_row(coding[i], fourteen);
         i += 1;
     }
 }
