@@ -82,6 +82,14 @@ module _ (header : ℕ → Header) where
   unfolding items itemsOf giving looks looksIn left look lookLocked lookHunting itemAt keeps live confirmed
   stray-null = refl
 
+  -- SYNC WORDS THAT TAKE TURNS MUST BE SUPPOSED: four frames with one sync word and nothing else, in periods of four places so that it is short
+  abbrev pub one-word : Judged
+  one-word = record { len = 16; period = 4; limit = 3; stands = λ q. eqb (q % 4) 0; null = λ q. false; sync = λ q. true; header = header; number = λ q. 2 }
+
+  pub never-confirmed : items one-word begin ≡ []
+  unfolding items itemsOf giving looks looksIn left look lookLocked lookHunting itemAt keeps live confirmed
+  never-confirmed = refl
+
   -- WITH LIMIT 1 one miss drops the lock, and of two intact frames at the end the first is handed out
   pub one-miss : items (damaged 1 (λ q. eqb (q % 6144) 0) (λ q. false) (λ q. eqb (q / 6144 % 2) 0) 12388 2) begin ≡ Frame 0 (header 0) ∷ Frame 6144 (header 6144) ∷ Lost 12288 2 ∷ Frame 12388 (header 12388) ∷ Frame 18532 (header 18532) ∷ []
   unfolding items itemsOf giving looks looksIn left look lookLocked lookHunting itemAt keeps live confirmed
