@@ -1,7 +1,7 @@
 -- Each information byte has one cell, and each cell that is free for one has one: over the row's information width.
 -- Assumes nothing.
 use mathlib.Core.Path.{_≡_, refl, sym, ap, _∙_}
-use mathlib.Core.Bool.{Bool, true, false, _&&_}
+use mathlib.Core.Bool.{Bool, true, false}
 use Prim.Native.Nat.{ℕ, _+_, _-_, _*_, _/_, _%_, _<_, _≤_}
 use native.Mathlib.Nat.{mod-lt, div-add-mod', div-lt-iff-lt-mul, le-div-iff-mul-le, mul-le-mul-right, mod-eq-of-lt}
 use native.Mathlib.Omega.{arith}
@@ -9,12 +9,17 @@ use borrow.Author.Tests.{ltb-true, ltb-false, lt-ltb, le-ltb, eqb-false, ne-eqb}
 use lib.Arith.{digits-div, digits-mod}
 use lib.Dec.{eqb, ltb, lit<, lit≤}
 use Rattle.octets.specs.Choice.{pick}
+use Rattle.octets.proofs.Deciding.{not-both}
 use Rattle.array.specs.CodingArray.{Wide, superblock, upperRow, carried, widthOf, taken, indexAt, spread, rowIn, columnIn, rowOf, columnOf, HasCell, HasByte}
 
 -- both variants
 pub wide : (fourteen : Bool) → Wide (widthOf fourteen)
 wide true = record { above = lit< tt; within = lit≤ tt }
 wide false = record { above = lit< tt; within = lit≤ tt }
+
+pub width-below : (fourteen : Bool) → widthOf fourteen < 240
+width-below true = lit< tt
+width-below false = lit< tt
 
 -- ---- within a superblock: rows 0 to 7, information bytes 0 to superblock w - 1
 abbrev inBlock : ℕ → ℕ → ℕ → ℕ
@@ -29,10 +34,6 @@ record Cell (w t k j : ℕ) : Type 0 where
 
 mod-mod-8 : (k : ℕ) → k < 8 → k % 8 ≡ k
 mod-mod-8 k h = mod-eq-of-lt h
-
-not-both : (a b : Bool) → (a ≡ true → b ≡ false) → a && b ≡ false
-not-both true b h = h refl
-not-both false b h = refl
 
 module _ {w : ℕ} (W : Wide w) where
   upper-row-pos : 0 < upperRow w

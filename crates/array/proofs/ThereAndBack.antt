@@ -1,7 +1,7 @@
 -- Out then back returns every part, and back then out every output array: so none of the 6,144 bytes is lost and none is doubled.
 -- Assumes nothing.
 use mathlib.Core.Path.{_≡_, refl, ap, ap₂, _∙_}
-use mathlib.Core.Bool.{Bool, true, false, _&&_}
+use mathlib.Core.Bool.{Bool, true, false}
 use mathlib.Core.List.{List, []}
 use Prim.Native.Nat.{ℕ, _+_, _-_, _*_, _/_, _%_, _<_, _≤_}
 use native.Mathlib.Nat.{mod-lt, div-add-mod', div-lt-iff-lt-mul, mul-le-mul-right}
@@ -11,6 +11,7 @@ use lib.Arith.{digits-div, digits-mod}
 use lib.Dec.{eqb, ltb, lit<}
 use lib.ListN.{length, getD}
 use Rattle.octets.specs.Choice.{pick}
+use Rattle.octets.proofs.Deciding.{both}
 use Rattle.array.specs.Listed.{list}
 use Rattle.array.specs.CodingArray.{Wide, carried, Parts, taken, indexAt, contents, codingRow, codingArray, at, rowOf, columnOf, informationOf, blocksOf, checkOf, filled}
 use Rattle.array.specs.OutputArray.{rowAt, columnAt, outputAt, outputOf, arrayOf, gBytesOf, partsOf}
@@ -37,10 +38,6 @@ coding-array w p =
 pub output-array : (w : ℕ) (p : Parts) → arrayOf (outputOf w p) ≡ codingArray w p
 unfolding outputOf
 output-array w p = array-back p (codingArray w p) (coding-array w p)
-
-both : (a b : Bool) → a && b ≡ true → (a ≡ true) × (b ≡ true)
-both true b e = (refl, e)
-both false b e = let x : _≡_ {A = ℕ} 0 1 = cc in absurd (omega arith)
 
 sixteen : (q : ℕ) → q % 16 ≡ 0 → (q % 32 ≡ 0 → ⊥) → (q % 32 ≡ 16 → ⊥) → ⊥
 sixteen q e f g = omega arith

@@ -10,6 +10,7 @@ use borrow.Author.Tests.{eq-eqb, ne-eqb, eqb-true, eqb-false, le-ltb, ltb-false,
 use lib.Dec.{eqb, ltb, leb}
 use lib.ListN.{getD, List·getD-eq-default}
 use Rattle.octets.specs.Choice.{pick, placeIn}
+use Rattle.octets.proofs.Deciding.{both}
 use Rattle.capacity.specs.Sizes.{rates, stls, unequalSizes, unequalSize, equalA, equalB, perN, equalSize, sizeBy, unitsBy, equalIn}
 
 -- STL times 8 is the rate times 3
@@ -20,14 +21,10 @@ abbrev allLe : ℕ → List ℕ → Bool
 allLe m [] = true
 allLe m (x ∷ xs) = leb x m && allLe m xs
 
-first-true : (a b : Bool) → (a && b) ≡ true → (a ≡ true) × (b ≡ true)
-first-true true b h = (refl, h)
-first-true false b h = let z : _≡_ {A = ℕ} 0 1 = cc in absurd (omega arith)
-
 at-most : (m : ℕ) (xs : List ℕ) → allLe m xs ≡ true → (k : ℕ) → getD xs k 0 ≤ m
 at-most m [] h k = omega arith
-at-most m (x ∷ xs) h zero = leb-true x m (first-true (leb x m) (allLe m xs) h .0)
-at-most m (x ∷ xs) h (suc k) = at-most m xs (first-true (leb x m) (allLe m xs) h .1) k
+at-most m (x ∷ xs) h zero = leb-true x m (both (leb x m) (allLe m xs) h .0)
+at-most m (x ∷ xs) h (suc k) = at-most m xs (both (leb x m) (allLe m xs) h .1) k
 
 pub size-le : (k : ℕ) → getD unequalSizes k 0 ≤ 416
 unfolding unequalSizes
@@ -160,15 +157,15 @@ module _ (half : ℕ) where
 
     pub half-a : each ≡ getD equalA (half / 1024 % 4) 0 → each ≤ 12 → (eqb (half / 4096) 8 && eqb (half % 1024 % 3) 0) ≡ true → (half % 1024 / 3 * each ≡ equalIn half) × (half % 1024 / 3 * each ≤ 4092)
     half-a e l t =
-        let x = first-true (eqb (half / 4096) 8) (eqb (half % 1024 % 3) 0) t in (
+        let x = both (eqb (half / 4096) 8) (eqb (half % 1024 % 3) 0) t in (
           a-in (eqb-true _ _ (x .0)) e (half % 1024 / 3 * each) (λ (k : half % 1024 ≡ 0). rw k (zero-mul each)) (per-some 3 each (half % 1024) (eqb-true _ _ (x .1))),
           part-le 12 341 each (half % 1024 / 3) l (omega arith),
         )
 
     pub half-b : each ≡ getD equalB (half / 1024 % 4) 0 → each ≤ 27 → (eqb (half / 4096) 9 && (eqb (half % 1024 % 3) 0 && eqb (half % 1024 / 3 % 4) 0)) ≡ true → (half % 1024 / 3 / 4 * each ≡ equalIn half) × (half % 1024 / 3 / 4 * each ≤ 4092)
     half-b e l t =
-        let x = first-true (eqb (half / 4096) 9) (eqb (half % 1024 % 3) 0 && eqb (half % 1024 / 3 % 4) 0) t in
-        let y = first-true (eqb (half % 1024 % 3) 0) (eqb (half % 1024 / 3 % 4) 0) (x .1) in
+        let x = both (eqb (half / 4096) 9) (eqb (half % 1024 % 3) 0 && eqb (half % 1024 / 3 % 4) 0) t in
+        let y = both (eqb (half % 1024 % 3) 0) (eqb (half % 1024 / 3 % 4) 0) (x .1) in
         let p = eqb-true (half % 1024 % 3) 0 (y .0) in
         let q = eqb-true (half % 1024 / 3 % 4) 0 (y .1) in
         let d : half % 1024 / 3 / 4 ≡ half % 1024 / 12 = omega arith in (

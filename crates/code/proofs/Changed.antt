@@ -11,9 +11,11 @@ use lib.Dec.{eqb}
 use lib.ListN.{length, getD, set, drop, replicate, length-append, length-set}
 use lib.Pow.{pow-pos}
 use Rattle.octets.specs.Choice.{pick}
+use Rattle.octets.specs.Words.{Octets}
+use Rattle.octets.proofs.EachByte.{append-octets, drop-octets}
 use Rattle.field.specs.Field.{times}
 use Rattle.field.proofs.FieldLaws.{times-lt}
-use Rattle.code.specs.Code.{_⊞_, isClean, lower, divide, remainder, checkBytes, Octets, Zeros, differences}
+use Rattle.code.specs.Code.{_⊞_, isClean, lower, divide, remainder, checkBytes, Zeros, differences}
 use Rattle.code.proofs.CleanRows.{clean-sum, checked-clean, check-length, length-sum}
 use Rattle.code.proofs.Distance.{xor-same, distance}
 
@@ -66,10 +68,6 @@ one-changed n xs k v b o h l f c =
     changed (suc n) xs (set xs k v) (sym e) (omega arith) o (set-octets xs k v o l) (omega arith) (omega arith) c
 
 -- ---- the check bytes are the only ones
-append-octets : (xs ys : List ℕ) → Octets xs → Octets ys → Octets (xs ++ ys)
-append-octets [] ys o p = p
-append-octets (x ∷ xs) ys o p = (o .0, append-octets xs ys (o .1) p)
-
 differ-le : (xs ys : List ℕ) → length xs ≡ length ys → differences xs ys ≤ length xs
 differ-le [] [] e = omega arith
 differ-le [] (y ∷ ys) e = absurd (omega arith)
@@ -92,16 +90,12 @@ map-octets : (f : ℕ) (xs : List ℕ) → Octets (map (times f) xs)
 map-octets f [] = tt
 map-octets f (x ∷ xs) = (times-lt f x, map-octets f xs)
 
-tail-octets : (xs : List ℕ) → Octets xs → Octets (drop 1 xs)
-tail-octets [] o = tt
-tail-octets (x ∷ xs) o = o .1
-
 remainder-octets : (g rest info : List ℕ) → Octets rest → Octets (remainder g rest info)
 remainder-octets g rest [] o = o
 remainder-octets g rest (b ∷ info) o =
     remainder-octets g (divide g rest b) info
     (sum-octets (drop 1 rest ++ (0 ∷ [])) (map (times (bitXor b (getD rest 0 0))) g)
-    (append-octets (drop 1 rest) (0 ∷ []) (tail-octets rest o) (pow-pos 8, tt))
+    (append-octets (drop 1 rest) (0 ∷ []) (drop-octets 1 rest o) (pow-pos 8, tt))
     (map-octets (bitXor b (getD rest 0 0)) g))
 
 zero-octets : (n : ℕ) → Octets (replicate n 0)

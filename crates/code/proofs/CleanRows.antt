@@ -1,7 +1,7 @@
 -- The laws of the code: sums of clean rows are clean; information followed by its check bytes is clean.
 -- Assumes nothing.
 use mathlib.Core.Path.{_≡_, refl, sym, ap, ap₂, _∙_}
-use mathlib.Core.Bool.{Bool, true, false, _&&_}
+use mathlib.Core.Bool.{true}
 use mathlib.Core.List.{List, [], _∷_, _++_, map}
 use Prim.Native.Nat.{ℕ, zero, suc, _+_, _*_, _%_, _^_, _<_}
 use native.Mathlib.Nat.{mod-lt, eq-or-lt-of-le, le-of-suc-le-suc, mul-zero, mul-suc}
@@ -12,6 +12,7 @@ use lib.Dec.{eqb}
 use lib.ListN.{length, replicate, length-append, length-map, length-replicate}
 use lib.Pow.{pow-pos}
 use borrow.Author.Tests.{eqb-true, eq-eqb}
+use Rattle.octets.proofs.Deciding.{both}
 use Rattle.linear.proofs.Linear.{Linear, itself, then}
 use Rattle.linear.proofs.Xor.{xor-assoc, xor-cross}
 use Rattle.field.specs.Field.{times, power}
@@ -27,10 +28,6 @@ horner-sum z u v (a ∷ xs) (b ∷ ys) e =
     ap (λ (w : ℕ). horner z w (xs ⊞ ys))
     (ap (λ (w : ℕ). bitXor w (bitXor a b)) (linear-l z .law u v) ∙ xor-cross (times u z) (times v z) a b)
     ∙ horner-sum z (bitXor (times u z) a) (bitXor (times v z) b) xs ys (omega arith)
-
-both : (p q : Bool) → p && q ≡ true → (p ≡ true) × (q ≡ true)
-both true q e = (refl, e)
-both false q e = let x : _≡_ {A = ℕ} 0 1 = cc in absurd (omega arith)
 
 pub clean-sum : (r : ℕ) (xs ys : List ℕ) → length xs ≡ length ys → isClean r xs ≡ true → isClean r ys ≡ true → isClean r (xs ⊞ ys) ≡ true
 clean-sum zero xs ys e p q = refl

@@ -12,11 +12,12 @@ use lib.Bits.{bitXor, xor-self, xor-zero-r, xor-zero-l, xor-lt}
 use lib.Dec.{eqb}
 use lib.ListN.{length}
 use Rattle.octets.specs.Choice.{pick}
+use Rattle.octets.specs.Words.{Octets}
 use Rattle.linear.proofs.Xor.{xor-assoc, xor-cross}
 use Rattle.field.specs.Field.{times, power}
 use Rattle.field.proofs.FieldLaws.{linear-l, linear-r, at-zero, times-assoc, times-comm, times-lt, times-power, power-lt}
 use Rattle.field.proofs.Inverses.{no-zero, power-pos, powers-apart}
-use Rattle.code.specs.Code.{horner, valueAt, firstRoot, root, isClean, Octets, Zeros, weight}
+use Rattle.code.specs.Code.{horner, valueAt, firstRoot, root, isClean, Zeros, weight}
 use Rattle.code.proofs.CleanRows.{horner-start, lift-power, clean-at}
 
 -- ---- the row's value at alpha^k, as a sum over its bytes

@@ -4,7 +4,7 @@
 use mathlib.Core.Bool.{Bool, true, _&&_}
 use mathlib.Core.List.{List, [], _∷_, _++_, map}
 use mathlib.Core.Path.{_≡_}
-use Prim.Native.Nat.{ℕ, zero, suc, _+_, _^_, _<_}
+use Prim.Native.Nat.{ℕ, zero, suc, _+_}
 use lib.Bits.{bitXor}
 use lib.Dec.{eqb}
 use lib.ListN.{getD, drop, replicate}
@@ -61,11 +61,7 @@ unfoldable pub checkBytes : ℕ → List ℕ → List ℕ
 checkBytes r info = remainder (lower r) (replicate r 0) info
 
 -- ---- rows held against each other
--- each byte is below 256; each byte is zero
-abbrev pub Octets : List ℕ → Type 0
-Octets [] = Unit {0}
-Octets (x ∷ xs) = (x < 2 ^ 8) × Octets xs
-
+-- each byte is zero
 abbrev pub Zeros : List ℕ → Type 0
 Zeros [] = Unit {0}
 Zeros (x ∷ xs) = (x ≡ 0) × Zeros xs

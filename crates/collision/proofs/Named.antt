@@ -11,12 +11,13 @@ use borrow.Author.Tests.{ltb-true, ltb-false, lt-ltb}
 use lib.Dec.{T, ltb, ltb→lt, lit<}
 use lib.ListN.{drop}
 use Rattle.octets.specs.Choice.{pick}
+use Rattle.octets.proofs.Deciding.{clash}
 use Rattle.frame.specs.Frame.{nstOf}
 use Rattle.frame.specs.Rules.{Rule, _when_, first, rulesOf}
 use Rattle.frame.proofs.FirstRule.{holds-there}
 use Rattle.places.specs.declared.Place.{Place}
 use Rattle.places.specs.Places.{placesOf, placeRules, profileOf, some, somePair, sameScid, unsized, beyond, meets}
-use Rattle.places.proofs.Meaning.{some-found, pair-found, clash}
+use Rattle.places.proofs.Meaning.{some-found, pair-found}
 use Rattle.places.proofs.PlaceList.{places-length, places-at}
 use Rattle.collision.specs.Collisions.{seek, seekTo, oneTo, laterTo, earlierTo, pairTo, twoBy, twoOf, placeAt, FirstOne, FirstTwo}
 use Rattle.collision.proofs.FirstFound.{ofOne, ofTwo, hasLater}

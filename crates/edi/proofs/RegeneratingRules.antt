@@ -12,18 +12,18 @@ use lib.ListN.{length, getD, take, drop}
 use lib.Seq.{take-at}
 use Rattle.octets.specs.Choice.{pick}
 use Rattle.octets.specs.Stores.{put}
-use Rattle.octets.proofs.Deciding.{or-assoc}
+use Rattle.octets.proofs.Deciding.{clash}
 use Rattle.octets.proofs.Storing.{put-room, put-chain, put-length}
+use Rattle.frame.proofs.Entries.{wider-append}
 use Rattle.frame.specs.declared.Fields.{Fields}
 use Rattle.frame.specs.declared.Stream.{Stream}
-use Rattle.frame.specs.Frame.{ficlBy, sstcWidths, stlTotal}
+use Rattle.frame.specs.Frame.{ficlBy, stlTotal}
 use Rattle.frame.specs.Rules.{Rule, _when_, first, someStlAbove}
 use Rattle.frame.specs.Answers.{tableBy}
-use Rattle.frame.specs.Writing.{entriesOf, flIn, someWider, streamValues, someStreamWider, wider, writingRulesOf, writingRefusalOf, frameIn, writtenOf, Writes}
+use Rattle.frame.specs.Writing.{entriesOf, flIn, someStreamWider, wider, writingRulesOf, writingRefusalOf, frameIn, writtenOf, Writes}
 use Rattle.frame.proofs.FirstRule.{none-hold, first-zero, first-found}
 use Rattle.frame.proofs.Headers.{digit-of}
 use Rattle.items.specs.TagItems.{Item, itemsOf, valueOf, highestIn}
-use Rattle.items.proofs.ItemList.{clash}
 use Rattle.tags.specs.TagValues.{ficfIn, midIn, ficIn, ficlIn, ficPlace, entryBy, entryIn, fieldsBy}
 use Rattle.tags.proofs.TagLaws.{ficf-bit, fic-long}
 use Rattle.sorting.specs.declared.Sorted.{Sorted}
@@ -182,13 +182,6 @@ module _ (p : List ℕ) (s : Bool) (was : List ℕ) where
 or-true : (a : Bool) → (a || true) ≡ true
 or-true true = refl
 or-true false = refl
-
-wider-append : (ss ts : List Stream) → someStreamWider (ss ++ ts) ≡ (someStreamWider ss || someStreamWider ts)
-unfolding someStreamWider
-wider-append [] ts = refl
-wider-append (t ∷ ss) ts =
-    let w = someWider sstcWidths (streamValues t) in
-    ap (λ (b : Bool). w || b) (wider-append ss ts) ∙ sym (or-assoc w (someStreamWider ss) (someStreamWider ts))
 
 stl-wider : (v : List ℕ) → 8194 < length v → someStreamWider (entryIn v ∷ []) ≡ true
 unfolding someStreamWider entryIn entryBy

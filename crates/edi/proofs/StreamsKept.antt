@@ -12,13 +12,13 @@ use lib.Dec.{eqb, ltb}
 use lib.ListN.{length, getD, take, drop, length-drop, length-append}
 use lib.Seq.{length-take-le, take-all}
 use Rattle.octets.specs.Stores.{put}
-use Rattle.octets.proofs.Deciding.{neither}
+use Rattle.octets.proofs.Deciding.{neither, both}
 use Rattle.octets.proofs.Storing.{put-none, put-chain, put-length}
 use Rattle.frame.specs.Frame.{stlTotal}
 use Rattle.frame.proofs.Streams.{total-append}
 use Rattle.items.specs.TagItems.{Item, itemsOf, isStream, valuesOf, valueOf, highestIn, eachOnce}
 use Rattle.items.specs.PassNotes.{ValueAt}
-use Rattle.items.proofs.ItemList.{both, Words, value-words}
+use Rattle.items.proofs.ItemList.{Words, value-words}
 use Rattle.tags.specs.TagValues.{ficIn, ficlIn, lengthFor, entryBy, entryIn}
 use Rattle.tags.proofs.TagLaws.{fic-long}
 use Rattle.sorting.proofs.OnceMet.{highest-small, managed-once, managed-called, Clear, clear}

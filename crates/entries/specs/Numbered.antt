@@ -1,4 +1,4 @@
--- An item of a walk, asked for by its number, in ten bytes: those that stand behind the state in the boundary's walk.
+-- An item of a walk, asked for by its number, in ten bytes: the first that stand behind the state in the boundary's walk.
 -- Assumes nothing.
 use mathlib.Core.List.{List, _∷_}
 use Prim.Native.Nat.{ℕ}

@@ -18,7 +18,7 @@ use Rattle.frame.specs.Writing.{someWider, streamValues, someStreamWider
 use Rattle.octets.proofs.Deciding.{or-assoc, or-false}
 use Rattle.frame.proofs.Streams.{total-append, some-append}
 
-wider-append : (ss ts : List Stream) → someStreamWider (ss ++ ts) ≡ (someStreamWider ss || someStreamWider ts)
+pub wider-append : (ss ts : List Stream) → someStreamWider (ss ++ ts) ≡ (someStreamWider ss || someStreamWider ts)
 unfolding someStreamWider
 wider-append [] ts = refl
 wider-append (s ∷ ss) ts =

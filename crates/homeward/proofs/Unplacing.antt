@@ -1,7 +1,7 @@
 -- Rows in runs of the interleaving array, and the way back's answer.
 -- Assumes nothing.
 use mathlib.Core.Path.{_≡_, refl, sym, ap, ap₂, _∙_}
-use mathlib.Core.Bool.{Bool, true, false, _&&_}
+use mathlib.Core.Bool.{Bool, false}
 use mathlib.Core.List.{List, [], _∷_}
 use Prim.Native.Nat.{ℕ, zero, suc, _+_, _-_, _*_, _/_, _%_, _<_, _≤_}
 use native.Mathlib.Nat.{div-lt-iff-lt-mul, mod-lt, mul-le-mul-right}
@@ -12,11 +12,12 @@ use lib.Dec.{eqb, ltb, lit<}
 use lib.ListN.{length, getD}
 use Rattle.octets.specs.Stores.{put}
 use Rattle.octets.proofs.Storing.{put-all}
+use Rattle.octets.proofs.Deciding.{not-both}
 use Rattle.array.specs.Listed.{list}
 use Rattle.array.specs.CodingArray.{Wide, superblock, upperRow, widthOf, carried, Parts, lent, taken, indexAt, at, rowOf, columnOf, informationOf, blocksOf, checkOf}
 use Rattle.array.specs.OutputArray.{interleaved, sent, place, arrayRow, arrayOf, gBytesOf, partsOf}
 use Rattle.array.specs.PartLengths.{refusalBeside}
-use Rattle.array.proofs.Cells.{wide, placed, held}
+use Rattle.array.proofs.Cells.{wide, placed, held, width-below}
 use Rattle.array.proofs.Filling.{Filled, filled-none, filled-run, list-at, list-length, list-same}
 use Rattle.array.proofs.Sending.{array-of-at}
 use Rattle.array.proofs.PartSizes.{six}
@@ -58,10 +59,6 @@ module _ {w : ℕ} (W : Wide w) (x out : List ℕ) (i j n from p : ℕ) (e : len
       rw a (filled-run (λ m. getD x (p + 8 * m) 0) out from (byteOf w x) (carried w) n to F (fits W i j n from R (F .below)) byte-at z)
 
 -- ---- the runs of an upper row, and the one of another
-not-both : (a b : Bool) → (a ≡ true → b ≡ false) → a && b ≡ false
-not-both true b h = h refl
-not-both false b h = refl
-
 pub upper-run : (w i b n from to : ℕ) → Wide w → i < 24 → i % 8 < 2 → n ≤ 29 → 30 * b + 1 + n ≤ w → from ≡ indexAt w i 1 → to ≡ from + 29 * b → Run w i (30 * b + 1) n to
 unfolding indexAt
 upper-run w i b n from to W h u l k e z =
@@ -168,10 +165,6 @@ module _ {w : ℕ} (W : Wide w) (o : List ℕ) where
       cell-at o (n / r) (w + n % r) (div-lt-iff-lt-mul pos .1 h) (omega (arith, mod-lt n pos)))
 
 -- ---- the answer
-below : (x : Bool) → widthOf x < 240
-below true = lit< tt
-below false = lit< tt
-
 module _ (fourteen : Bool) (o b m s g h r : List ℕ) where
   abbrev w : ℕ
   w = widthOf fourteen
@@ -195,7 +188,7 @@ module _ (fourteen : Bool) (o b m s g h r : List ℕ) where
   room n k x a e z q W f =
       record {
         wide = W;
-        within = rw q (below fourteen);
+        within = rw q (width-below fourteen);
         array = interleaving-length o x a;
         information = f;
         management = lengths-of n 1 e z;
@@ -217,6 +210,6 @@ module _ (fourteen : Bool) (o b m s g h r : List ℕ) where
               supervision = (out .supervision ∙ ap (λ (y : List ℕ). list (blockOf 1 y) 24) a ∙ blocks-of W o 1 (lit< tt)) t;
               synchronising = sg t;
               signalling = si t;
-              check = (out .check ∙ ap₂ (λ (v : ℕ) (y : List ℕ). list (checkByteOf v y) (24 * (240 - v))) q a ∙ check-of W o (below fourteen)) t;
+              check = (out .check ∙ ap₂ (λ (v : ℕ) (y : List ℕ). list (checkByteOf v y) (24 * (240 - v))) q a ∙ check-of W o (width-below fourteen)) t;
             };
       }

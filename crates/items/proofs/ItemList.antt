@@ -11,7 +11,7 @@ use lib.Dec.{eqb, ltb}
 use lib.ListN.{length, getD, drop, length-take, length-drop}
 use Rattle.octets.specs.Choice.{pick}
 use Rattle.octets.specs.Words.{wordAt}
-use Rattle.octets.proofs.Deciding.{or-assoc, neither}
+use Rattle.octets.proofs.Deciding.{or-assoc, neither, clash}
 use Rattle.items.specs.TagItems.{Item, itemIn, itemsTo, itemsOf, partOf, isStream, isBad, someBad, valuesOf, valueOf, highestIn}
 
 -- ---- the list of items does not depend on how many are allowed for
@@ -77,13 +77,6 @@ highest-append [] js = omega arith
 highest-append (i ∷ is) js = rw (highest-append is js) (omega arith)
 
 -- ---- Bools
-pub both : (a b : Bool) → (a && b) ≡ true → (a ≡ true) × (b ≡ true)
-both true b e = (refl, e)
-both false b e = let z : _≡_ {A = ℕ} 0 1 = cc in absurd (omega arith)
-
-pub clash : true ≡ false → ⊥
-clash e = let z : _≡_ {A = ℕ} 0 1 = cc in omega arith
-
 -- ---- a sound item: whole bytes, all there, and a stream of whole words
 pub record SoundItem (i : Item) : Type 0 where
   pub bytes : i .bits % 8 ≡ 0
@@ -92,7 +85,7 @@ pub record SoundItem (i : Item) : Type 0 where
 
 words : (s w z : Bool) → (s && (w || not z)) ≡ false → s ≡ true → (w ≡ false) × (z ≡ true)
 words true w z e h = let p = neither w (not z) e in (p .0, not-false z (p .1))
-words false w z e h = absurd (clash (sym h))
+words false w z e h = clash (sym h)
 
 pub sound-item : (i : Item) → isBad i ≡ false → SoundItem i
 unfolding isBad

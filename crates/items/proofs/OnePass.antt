@@ -10,10 +10,11 @@ use lib.Dec.{eqb, ltb}
 use lib.ListN.{length, getD, take, drop, set, replicate, length-take, length-drop, length-set, getD-replicate}
 use lib.Seq.{getD-set-same, getD-set-other, drop-drop, append-snoc, take-all}
 use Rattle.octets.specs.Words.{wordAt}
+use Rattle.octets.proofs.Deciding.{clash}
 use Rattle.items.specs.declared.Seen.{Seen}
 use Rattle.items.specs.TagItems.{Item, itemIn, itemsOf, partOf, isBad, someBad, valuesOf, numberBy, highestIn}
 use Rattle.items.specs.PassNotes.{tallyOf, moreBy, badBy, LooksAt, Holds, Noted, Passed}
-use Rattle.items.proofs.ItemList.{items-none, items-more, bad-append, values-append, highest-append, clash, SoundItem, sound-item}
+use Rattle.items.proofs.ItemList.{items-none, items-more, bad-append, values-append, highest-append, SoundItem, sound-item}
 
 -- ---- a look: a value that runs past is shorter than its length says
 ltb-min : (n l : ℕ) → ltb (min n l) n ≡ ltb l n

@@ -1,13 +1,12 @@
 -- The way out of a network frame.
 -- Assumes nothing.
 use mathlib.Core.Path.{_≡_, refl, sym, ap, _∙_}
-use mathlib.Core.Bool.{Bool, true, false}
+use mathlib.Core.Bool.{Bool, true}
 use mathlib.Core.List.{List, []}
 use Prim.Native.Nat.{ℕ, _+_, _-_, _*_, _/_, _%_, _<_, _≤_}
 use native.Mathlib.Nat.{add-sub-cancel-left}
 use native.Mathlib.Omega.{arith}
 use borrow.Author.Tests.{ne-eqb}
-use lib.Dec.{lit<}
 use lib.ListN.{length, getD, drop, length-drop}
 use lib.Seq.{length-take-le}
 use Rattle.octets.specs.Words.{wordAt}
@@ -17,7 +16,7 @@ use Rattle.frame.proofs.Accepting.{acceptable}
 use Rattle.array.specs.CodingArray.{widthOf, lent, Parts}
 use Rattle.array.specs.OutputArray.{outputOf, arrayOf}
 use Rattle.array.specs.PartLengths.{partsRefusal, refusalBeside}
-use Rattle.array.proofs.Cells.{wide}
+use Rattle.array.proofs.Cells.{wide, width-below}
 use Rattle.array.proofs.ThereAndBack.{output-array}
 use Rattle.code.specs.Code.{isClean}
 use Rattle.coded.specs.Coded.{coded}
@@ -76,8 +75,4 @@ module _ (fourteen : Bool) (f m s g h out : List ℕ) where
       let o : after ≡ outputOf w (withFrame w f p) = (rw z at b) in
       ap (λ (x : List ℕ). isClean (240 - w) (getD (arrayOf x) i [])) o
       ∙ ap (λ (c : List (List ℕ)). isClean (240 - w) (getD c i [])) (output-array w (withFrame w f p))
-      ∙ row-clean (wide fourteen) (lent (logicalOf f) m s g h []) (below fourteen) i l
-    where
-      below : (x : Bool) → widthOf x < 240
-      below true = lit< tt
-      below false = lit< tt
+      ∙ row-clean (wide fourteen) (lent (logicalOf f) m s g h []) (width-below fourteen) i l

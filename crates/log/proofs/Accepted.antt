@@ -1,6 +1,6 @@
 -- What the numbers of a log say in plain words, and what holds of an accepted log.
 -- Assumes nothing.
-use mathlib.Core.Bool.{Bool, true, false, not, _&&_}
+use mathlib.Core.Bool.{Bool, true, false, not}
 use mathlib.Core.List.{List, [], _∷_, _++_}
 use mathlib.Core.Path.{_≡_, refl, sym, ap, _∙_}
 use Prim.Native.Nat.{ℕ, zero, suc, _+_, _*_, _%_, _≤_, _<_}
@@ -10,6 +10,7 @@ use lib.Dec.{eqb, ltb}
 use lib.ListN.{length}
 use lib.Seq.{take-all}
 use Rattle.octets.specs.Choice.{pick}
+use Rattle.octets.proofs.Deciding.{both}
 use Rattle.frame.specs.Writing.{Bytes}
 use Rattle.frame.proofs.FirstRule.{none-hold}
 use Rattle.log.specs.declared.Entry.{Entry}
@@ -19,10 +20,6 @@ use Rattle.log.proofs.Returned.{write-log}
 pub all-snoc : (es : List Entry) (e : Entry) → AllAllowed es → allowedEntry e ≡ true → AllAllowed (es ++ (e ∷ []))
 all-snoc [] e a p = (p, tt)
 all-snoc (d ∷ es) e a p = (a .0, all-snoc es e (a .1) p)
-
-pub both : (a b : Bool) → (a && b) ≡ true → (a ≡ true) × (b ≡ true)
-both true b h = (refl, h)
-both false b h = let z : _≡_ {A = ℕ} 0 1 = cc in absurd (omega arith)
 
 module _ (l : List ℕ) where
   -- the record named is bad

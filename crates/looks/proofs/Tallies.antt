@@ -8,6 +8,7 @@ use native.Mathlib.Omega.{arith}
 use lib.Dec.{lit<, eqb}
 use lib.ListN.{length}
 use borrow.Author.Tests.{eq-eqb, ne-eqb, le-leb, lt-leb, lt-ltb, le-ltb}
+use Rattle.octets.proofs.Deciding.{clash}
 use Rattle.frame.specs.Rules.{refusalOf}
 use Rattle.walk.specs.declared.Position.{Position}
 use Rattle.walk.specs.Walk.{Judged, confirmed, live, keeps, lookLocked, lookHunting, look, hunting, locked, begin}
@@ -19,9 +20,6 @@ use Rattle.looks.specs.declared.Tally.{Tally}
 use Rattle.looks.specs.Testing.{testsAt, testsFrom, testsOf, CountsTests}
 use Rattle.looks.specs.CountClauses.{tally, Counts}
 use Rattle.looks.proofs.Bounds.{tests-live, tests-none, most-tests}
-
-pub clash : {A : Type 0} → true ≡ false → A
-clash e = let z : _≡_ {A = ℕ} 0 1 = cc in absurd (omega arith)
 
 zero-is : (x : ℕ) → x ≡ 0 + x
 zero-is x = omega arith

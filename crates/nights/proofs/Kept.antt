@@ -10,6 +10,7 @@ use lib.Dec.{eqb, leb}
 use lib.ListN.{length, drop, length-drop}
 use lib.Seq.{length-take-le}
 use Rattle.octets.specs.Choice.{placeIn}
+use Rattle.octets.proofs.Deciding.{both}
 use Rattle.sum.specs.Sum.{sumOf}
 use Rattle.frame.specs.declared.Header.{Header}
 use Rattle.frame.specs.Frame.{statuses, errOf, fctOf, levelOf, mainOf, mainSumOf}
@@ -18,7 +19,6 @@ use Rattle.frame.specs.Answers.{headerFor}
 use Rattle.frame.proofs.Places.{status-placed}
 use Rattle.trips.proofs.ReadWritable.{level-le}
 use Rattle.log.specs.Log.{frameKind as loggedFrame, lostKind as loggedLost, idleKind as loggedIdle, allowed, allowedEntry, lostCode, writingRefusalOf}
-use Rattle.log.proofs.Accepted.{both}
 use Rattle.walk.specs.declared.Item.{Item}
 use Rattle.walk.specs.declared.Item.the-variants.{Frame, Lost, Idle, Done}
 use Rattle.walk.specs.declared.State.{State}

@@ -1,6 +1,6 @@
--- Laws of tests: what decides one, for `search (needs, tests)`; either of two; a number's place in a list.
+-- Laws of tests: what decides one, for `search (needs, tests)`; either of two, both of two; a number's place in a list.
 -- Assumes nothing.
-use mathlib.Core.Bool.{Bool, true, false, not, _||_}
+use mathlib.Core.Bool.{Bool, true, false, not, _&&_, _||_}
 use mathlib.Core.List.{List, [], _∷_}
 use mathlib.Core.Path.{_≡_, refl, sym}
 use Prim.Native.Nat.{ℕ, suc, _<_}
@@ -27,6 +27,17 @@ or-false false = refl
 pub neither : (a b : Bool) → (a || b) ≡ false → (a ≡ false) × (b ≡ false)
 neither true b e = (e, cc)
 neither false b e = (refl, e)
+
+pub clash : {A : Type 0} → true ≡ false → A
+clash e = let z : _≡_ {A = ℕ} 0 1 = cc in absurd (omega arith)
+
+pub both : (a b : Bool) → (a && b) ≡ true → (a ≡ true) × (b ≡ true)
+both true b e = (refl, e)
+both false b e = clash (sym e)
+
+pub not-both : (a b : Bool) → (a ≡ true → b ≡ false) → (a && b) ≡ false
+not-both true b h = h refl
+not-both false b h = refl
 
 -- what stands at the place of n is n
 pub at-place : (xs : List ℕ) (n : ℕ) → placeIn xs n < length xs → getD xs (placeIn xs n) 0 ≡ n

@@ -1,3 +1,4 @@
 pub mod Deciding
+pub mod EachByte
 pub mod SplitJoin
 pub mod Storing

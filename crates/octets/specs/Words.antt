@@ -26,6 +26,11 @@ Fit [] (v ∷ vs) = ⊥
 Fit (k ∷ ks) [] = ⊥
 Fit (k ∷ ks) (v ∷ vs) = (v < 2 ^ k) × Fit ks vs
 
+-- each is a byte
+abbrev pub Octets : List ℕ → Type 0
+Octets [] = Unit {0}
+Octets (b ∷ bs) = (b < 2 ^ 8) × Octets bs
+
 -- two bytes, a word's four, and eight
 abbrev pub bytes2 : List ℕ
 bytes2 = 8 ∷ 8 ∷ []

@@ -6,14 +6,14 @@ use mathlib.Core.List.{List, [], _∷_, _++_, append-nil}
 use Prim.Native.Nat.{ℕ, _+_, _-_, _*_, _/_, _%_, _<_, _≤_}
 use native.Mathlib.Omega.{arith}
 use borrow.Author.Tests.{lt-ltb}
-use lib.Dec.{lit<, lit≤}
+use lib.Dec.{lit≤}
 use lib.ListN.{length, getD, take, drop}
 use lib.Seq.{length-take-le, drop-length, getD-take, ext-getD}
 use Rattle.octets.specs.Stores.{put}
 use Rattle.octets.proofs.Storing.{put-room}
 use Rattle.array.specs.Listed.{list}
 use Rattle.array.specs.CodingArray.{widthOf, carried, lent, contents, codingRow, codingArray}
-use Rattle.array.proofs.Cells.{wide}
+use Rattle.array.proofs.Cells.{wide, width-below}
 use Rattle.array.proofs.PartSizes.{six}
 use Rattle.array.proofs.Filling.{list-length, list-at, list-same}
 use Rattle.code.specs.Code.{checkBytes}
@@ -65,11 +65,7 @@ row-coded fourteen b m s r row after i k q h e a =
     let W = wide fourteen in
     let t : take w row ≡ informationRow w (inArray b m s []) i =
     ap (take w) (e ∙ ap (λ (v : ℕ). codingRow v (inArray b m s r) i) q) ∙ take-list (contents w (inArray b m s r) i) w 240 (W .within) ∙ same-information w b m s r i in
-    a ∙ ap (λ (x : List ℕ). x ++ checkBytes (240 - w) x) t ∙ sym (coded-row W (inArray b m s []) (below fourteen) i h)
-  where
-    below : (x : Bool) → widthOf x < 240
-    below true = lit< tt
-    below false = lit< tt
+    a ∙ ap (λ (x : List ℕ). x ++ checkBytes (240 - w) x) t ∙ sym (coded-row W (inArray b m s []) (width-below fourteen) i h)
 
 -- there is room for the check bytes of either variant
 pub room : (fourteen : Bool) (b m s r : List ℕ) (k : ℕ) → k ≡ widthOf fourteen → length m ≡ 24 → length s ≡ 24 → length r ≡ 336 → Held k (inArray b m s r)

@@ -1,7 +1,7 @@
 -- Rows in runs, lines of the output array, and the way out's answer.
 -- Assumes nothing.
 use mathlib.Core.Path.{_≡_, refl, sym, ap, ap₂, _∙_}
-use mathlib.Core.Bool.{Bool, true, false, _&&_}
+use mathlib.Core.Bool.{Bool, true, false}
 use mathlib.Core.List.{List, [], _∷_, _++_}
 use Prim.Native.Nat.{ℕ, zero, suc, _+_, _-_, _*_, _/_, _%_, _<_, _≤_}
 use native.Mathlib.Nat.{le-of-eq, mul-le-mul, mul-le-mul-right, add-sub-cancel-left}
@@ -13,6 +13,7 @@ use lib.Seq.{length-take-le, getD-take, getD-drop}
 use Rattle.octets.specs.Choice.{pick}
 use Rattle.octets.specs.Stores.{put}
 use Rattle.octets.proofs.Storing.{put-room}
+use Rattle.octets.proofs.Deciding.{not-both}
 use Rattle.array.specs.Listed.{list}
 use Rattle.array.specs.CodingArray.{Wide, superblock, upperRow, widthOf, carried, Parts, lent, taken, indexAt, at, contents, codingRow, codingArray}
 use Rattle.array.specs.OutputArray.{received, rowAt, columnAt, outputAt, outputOf}
@@ -92,10 +93,6 @@ row-same w b all m s r i e =
     ap (λ (x : ℕ). pick (ltb j w) (pick (taken i j) (getD (pick (eqb (i % 8) 0) m s) (i / 8 * 8 + j / 30) 0) x) (getD r (i * (240 - w) + (j - w)) 0)) (e (indexAt w i j)))
 
 -- ---- a block of an upper row
-not-both : (a b : Bool) → (a ≡ true → b ≡ false) → a && b ≡ false
-not-both true b h = h refl
-not-both false b h = refl
-
 module _ {w i k n : ℕ} {b m row : List ℕ} (B : Block w i k n b m row) where
   U : Upper w i b m row
   U = B .upper

@@ -8,32 +8,22 @@ use native.Mathlib.Omega.{arith}
 use borrow.Author.Tests.{ne-eqb, eqb-true, eqb-false, lt-ltb, ltb-true, ltb-false, lt-leb, leb-true, leb-false}
 use lib.Dec.{eqb, ltb, leb}
 use lib.ListN.{length, getD}
+use Rattle.octets.proofs.Deciding.{neither, clash, both}
 use Rattle.frame.specs.Rules.{first, NoneHold, FirstToHold, Settled, rulesOf, refusalOf}
 use Rattle.frame.proofs.Accepting.{nothing}
 use Rattle.frame.proofs.FirstRule.{only, given, none-hold, none-first, first-zero, first-found}
 use Rattle.places.specs.declared.Place.{Place}
 use Rattle.places.specs.Places.{noPlace, placesOf, some, somePair, sameScid, unsized, beyond, meets, placeRules, profileRulesOf, profileOf, Holds, PassesAll, Passes, HoldsOfOne, HoldsOfTwo}
 
-pub clash : {A : Type 0} → true ≡ false → A
-clash h = let z : _≡_ {A = ℕ} 0 1 = cc in absurd (omega arith)
-
-both-false : (a b : Bool) → (a || b) ≡ false → (a ≡ false) × (b ≡ false)
-both-false true b h = clash h
-both-false false b h = (refl, h)
-
 or-none : (a b : Bool) → a ≡ false → b ≡ false → (a || b) ≡ false
 or-none a b p q = rw (p, q)
-
-and-true : (a b : Bool) → (a && b) ≡ true → (a ≡ true) × (b ≡ true)
-and-true true b h = (refl, h)
-and-true false b h = clash (sym h)
 
 -- ---- no stream, no two streams
 some-none : (t : Place → Bool) (ps : List Place) → some t ps ≡ false → (i : ℕ) → i < length ps → t (getD ps i noPlace) ≡ false
 unfolding some
 some-none t [] h i k = absurd (omega arith)
-some-none t (p ∷ ps) h zero k = both-false (t p) (some t ps) h .0
-some-none t (p ∷ ps) h (suc i) k = some-none t ps (both-false (t p) (some t ps) h .1) i (omega arith)
+some-none t (p ∷ ps) h zero k = neither (t p) (some t ps) h .0
+some-none t (p ∷ ps) h (suc i) k = some-none t ps (neither (t p) (some t ps) h .1) i (omega arith)
 
 none-some : (t : Place → Bool) (ps : List Place) → ((i : ℕ) → i < length ps → t (getD ps i noPlace) ≡ false) → some t ps ≡ false
 unfolding some
@@ -44,8 +34,8 @@ pair-none : (t : Place → Place → Bool) (ps : List Place) → somePair t ps �
 unfolding somePair
 pair-none t [] h i j l k = absurd (omega arith)
 pair-none t (p ∷ ps) h i zero l k = absurd (omega arith)
-pair-none t (p ∷ ps) h zero (suc j) l k = some-none (t p) ps (both-false (some (t p) ps) (somePair t ps) h .0) j (omega arith)
-pair-none t (p ∷ ps) h (suc i) (suc j) l k = pair-none t ps (both-false (some (t p) ps) (somePair t ps) h .1) i j (omega arith) (omega arith)
+pair-none t (p ∷ ps) h zero (suc j) l k = some-none (t p) ps (neither (some (t p) ps) (somePair t ps) h .0) j (omega arith)
+pair-none t (p ∷ ps) h (suc i) (suc j) l k = pair-none t ps (neither (some (t p) ps) (somePair t ps) h .1) i j (omega arith) (omega arith)
 
 none-pair : (t : Place → Place → Bool) (ps : List Place) → ((i j : ℕ) → i < j → j < length ps → t (getD ps i noPlace) (getD ps j noPlace) ≡ false) → somePair t ps ≡ false
 unfolding somePair
@@ -123,9 +113,9 @@ meets-not a b h = go ((ltb (a .sad) (a .end) && ltb (b .sad) (b .end)) && (ltb (
     go : (c : Bool) → ((ltb (a .sad) (a .end) && ltb (b .sad) (b .end)) && (ltb (a .sad) (b .end) && ltb (b .sad) (a .end))) ≡ c → c ≡ false
     go false e = refl
     go true e =
-        let x = and-true (ltb (a .sad) (a .end) && ltb (b .sad) (b .end)) (ltb (a .sad) (b .end) && ltb (b .sad) (a .end)) e in
-        let y = and-true (ltb (a .sad) (a .end)) (ltb (b .sad) (b .end)) (x .0) in
-        let z = and-true (ltb (a .sad) (b .end)) (ltb (b .sad) (a .end)) (x .1) in
+        let x = both (ltb (a .sad) (a .end) && ltb (b .sad) (b .end)) (ltb (a .sad) (b .end) && ltb (b .sad) (a .end)) e in
+        let y = both (ltb (a .sad) (a .end)) (ltb (b .sad) (b .end)) (x .0) in
+        let z = both (ltb (a .sad) (b .end)) (ltb (b .sad) (a .end)) (x .1) in
         absurd (shared a b (ltb-true _ _ (y .0)) (ltb-true _ _ (y .1)) (ltb-true _ _ (z .0)) (ltb-true _ _ (z .1)) h)
 
 -- ---- all of it

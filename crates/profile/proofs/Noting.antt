@@ -10,11 +10,10 @@ use lib.Dec.{eqb, ltb}
 use lib.ListN.{getD}
 use Rattle.frame.specs.Rules.{first}
 use Rattle.octets.specs.Choice.{pick}
-use Rattle.octets.proofs.Deciding.{neither}
+use Rattle.octets.proofs.Deciding.{neither, clash}
 use Rattle.capacity.specs.Sizes.{unitsIn}
 use Rattle.places.specs.declared.Place.{Place}
 use Rattle.places.specs.Places.{placesTo, some, somePair, sameScid, unsized, beyond, meets, placeRules}
-use Rattle.places.proofs.Meaning.{clash}
 use Rattle.profile.specs.declared.Notes.{Notes}
 use Rattle.profile.specs.ProfileClauses.{Halved, placeBy, laidTo, endBy, endAt, EndsBy, totalTo, Tallied, past, ahead, Noted, Adds}
 use Rattle.profile.proofs.Pairs.{some-snoc, pair-snoc, none-too, none-at-all}

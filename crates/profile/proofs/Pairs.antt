@@ -1,6 +1,6 @@
 -- Tests over streams, one stream more at a time; the number after reading's refusals.
 -- Assumes nothing.
-use mathlib.Core.Bool.{Bool, true, false, _&&_, _||_}
+use mathlib.Core.Bool.{Bool, true, false, _||_}
 use mathlib.Core.List.{List, [], _∷_, _++_}
 use mathlib.Core.Path.{_≡_, refl, sym, ap₂, _∙_}
 use Prim.Native.Nat.{ℕ}
@@ -10,12 +10,7 @@ use Rattle.frame.proofs.Accepting.{nothing}
 use Rattle.frame.proofs.FirstRule.{first-zero, first-found}
 use Rattle.octets.proofs.Deciding.{or-assoc, or-false, neither}
 use Rattle.places.specs.declared.Place.{Place}
-use Rattle.places.proofs.Meaning.{clash}
 use Rattle.places.specs.Places.{placesTo, placesOf, some, somePair, placeRules, profileOf}
-
-pub both : (a b : Bool) → (a && b) ≡ true → (a ≡ true) × (b ≡ true)
-both true b e = (refl, e)
-both false b e = clash (sym e)
 
 some-append : (t : Place → Bool) (ps qs : List Place) → some t (ps ++ qs) ≡ (some t ps || some t qs)
 unfolding some

@@ -13,13 +13,12 @@ use lib.Dec.{eqb, ltb, leb}
 use lib.ListN.{length, getD, set}
 use lib.Seq.{getD-set-same, getD-set-other}
 use Rattle.frame.specs.Frame.{streamOf}
-use Rattle.octets.proofs.Deciding.{or-assoc, or-false, neither}
+use Rattle.octets.proofs.Deciding.{or-assoc, or-false, neither, clash, both}
 use Rattle.places.specs.declared.Place.{Place}
 use Rattle.places.specs.Places.{placeOf, placesTo, some, somePair, beyond, meets}
-use Rattle.places.proofs.Meaning.{clash}
 use Rattle.places.proofs.PlaceList.{places-more}
 use Rattle.profile.specs.ProfileClauses.{takes}
-use Rattle.profile.proofs.Pairs.{both, or-swap, some-snoc, pair-snoc, none-at-all}
+use Rattle.profile.proofs.Pairs.{or-swap, some-snoc, pair-snoc, none-at-all}
 
 -- ---- tests
 same-when : (a b : Bool) → (a ≡ true → b ≡ true) → (b ≡ true → a ≡ true) → a ≡ b

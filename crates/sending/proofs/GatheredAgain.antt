@@ -11,13 +11,14 @@ use lib.Seq.{take-add}
 use borrow.Author.Tests.{lt-ltb, eq-eqb, ne-eqb}
 use Rattle.sum.specs.Sum.{sumOf, sent}
 use Rattle.octets.specs.Stores.{bytesOfEach}
+use Rattle.octets.specs.Words.{Octets}
 use Rattle.signalling.specs.declared.Kind.the-variants.{Start, End}
 use Rattle.signalling.specs.Feeding.{run, giving}
 use Rattle.signalling.specs.Groups.{Frame, Gathering, Gathered, group, missing, sofar, gather, groups, gathering}
 use Rattle.signalling.specs.Messages.{kindIn, kindOf, grNb, groupBytes, messageBytes, continuationBytes, endBytes, closingSum, inRow, Strung, shut, opened, Handed, message, dropped, closed, byKind, string, items, stringing}
 use Rattle.signalling.proofs.Fed.{run-append}
 use Rattle.sending.specs.SentGroups.{startGroup, endGroup, continuations, beforeEnd, groupsOf, framesFrom, framesOf}
-use Rattle.sending.specs.MessageTrips.{Octets, Eights, Continuing, Sequence, Padded, atStart, told, lacking, Lost}
+use Rattle.sending.specs.MessageTrips.{Eights, Continuing, Sequence, Padded, atStart, told, lacking, Lost}
 
 -- ---- frames and groups
 -- a group of eight bytes, by its bytes
@@ -33,7 +34,7 @@ as-eight (b0 ∷ b1 ∷ b2 ∷ b3 ∷ []) e h = absurd (omega arith)
 as-eight (b0 ∷ b1 ∷ b2 ∷ b3 ∷ b4 ∷ []) e h = absurd (omega arith)
 as-eight (b0 ∷ b1 ∷ b2 ∷ b3 ∷ b4 ∷ b5 ∷ []) e h = absurd (omega arith)
 as-eight (b0 ∷ b1 ∷ b2 ∷ b3 ∷ b4 ∷ b5 ∷ b6 ∷ []) e h = absurd (omega arith)
-as-eight (b0 ∷ b1 ∷ b2 ∷ b3 ∷ b4 ∷ b5 ∷ b6 ∷ b7 ∷ []) e (Octets.more _ (Octets.more h1 (Octets.more _ (Octets.more h3 (Octets.more _ (Octets.more h5 (Octets.more _ (Octets.more h7 _)))))))) = eight b0 b1 b2 b3 b4 b5 b6 b7 h1 h3 h5 h7
+as-eight (b0 ∷ b1 ∷ b2 ∷ b3 ∷ b4 ∷ b5 ∷ b6 ∷ b7 ∷ []) e h = eight b0 b1 b2 b3 b4 b5 b6 b7 (h .1 .0) (h .1 .1 .1 .0) (h .1 .1 .1 .1 .1 .0) (h .1 .1 .1 .1 .1 .1 .1 .0)
 as-eight (b0 ∷ b1 ∷ b2 ∷ b3 ∷ b4 ∷ b5 ∷ b6 ∷ b7 ∷ b8 ∷ g) e h = absurd (omega arith)
 
 pair-back : (a b : ℕ) → b < 256 → sent (a * 256 + b) ≡ a ∷ b ∷ []

@@ -9,6 +9,8 @@ use native.Mathlib.Omega.{arith}
 use lib.Dec.{lit<}
 use lib.ListN.{length, take, drop, length-drop}
 use lib.Seq.{length-take-le, drop-at}
+use Rattle.octets.specs.Words.{Octets}
+use Rattle.octets.proofs.EachByte.{append-octets, take-octets, drop-octets}
 use Rattle.sum.specs.Sum.{sumOf, sent}
 use Rattle.sum.proofs.SumLaws.{sum-lt}
 use Rattle.signalling.specs.declared.State.{State}
@@ -17,32 +19,18 @@ use Rattle.signalling.specs.Groups.{Frame, gathering}
 use Rattle.signalling.specs.Messages.{inRow, Handed, message, items, stringing}
 use Rattle.signalling.specs.Following.{Holds, Calls}
 use Rattle.signalling.proofs.Holding.{calls-follow}
-use Rattle.sending.specs.SentGroups.{endGroup, continuations, beforeEnd, groupsOf, grNbFor, bytesOf, framesFrom, framesOf, SendsMessage}
+use Rattle.sending.specs.SentGroups.{startGroup, continuationGroup, endGroup, continuations, beforeEnd, groupsOf, grNbFor, bytesOf, framesFrom, framesOf, SendsMessage}
 use Rattle.sending.specs.SendClauses.{Carries}
-use Rattle.sending.specs.MessageTrips.{Octets, Eights, Padded, atStart, told}
+use Rattle.sending.specs.MessageTrips.{Eights, Padded, atStart, told}
 use Rattle.sending.proofs.Stored.{carried}
 use Rattle.sending.proofs.GatheredAgain.{end-length, last-four, back-again}
 
 -- ---- the groups' bytes are bytes
-joined : {xs ys : List ℕ} → Octets xs → Octets ys → Octets (xs ++ ys)
-joined Octets.none q = q
-joined (Octets.more h p) q = Octets.more h (joined p q)
-
-takes : (k : ℕ) {l : List ℕ} → Octets l → Octets (take k l)
-takes zero h = Octets.none
-takes (suc k) Octets.none = Octets.none
-takes (suc k) (Octets.more p h) = Octets.more p (takes k h)
-
-drops : (k : ℕ) {l : List ℕ} → Octets l → Octets (drop k l)
-drops zero h = h
-drops (suc k) Octets.none = Octets.none
-drops (suc k) (Octets.more p h) = drops k h
-
 sent-bytes : (ns : List ℕ) → Octets (sent (sumOf ns))
 sent-bytes ns =
     let h = sum-lt ns in
     let a : sumOf ns / 2 ^ 8 < 256 = omega arith in
-    Octets.more a (Octets.more (mod-lt (sumOf ns) (lit< tt)) Octets.none)
+    (a, (mod-lt (sumOf ns) (lit< tt), tt))
 
 continued-eights : (n : ℕ) (body last : List ℕ) → 6 * n ≤ length body → Octets body → length last ≡ 8 → Octets last → Eights (continuations n body ++ (last ∷ []))
 unfolding continuations
@@ -50,7 +38,7 @@ continued-eights zero body last h b e o = Eights.more e o Eights.none
 continued-eights (suc n) body last h b e o =
     let k = length-take-le 6 body (omega arith) in
     let d = length-drop 6 body in
-    Eights.more (ap (λ (m : ℕ). suc (suc m)) k) (Octets.more (lit< tt) (Octets.more (lit< tt) (takes 6 b))) (continued-eights n (drop 6 body) last (omega arith) (drops 6 b) e o)
+    Eights.more {g = continuationGroup (take 6 body)} (ap (λ (m : ℕ). suc (suc m)) k) (lit< tt, (lit< tt, take-octets 6 body b)) (continued-eights n (drop 6 body) last (omega arith) (drop-octets 6 body b) e o)
 
 unpadded : (gs : List (List ℕ)) → Padded gs gs
 unpadded [] = Padded.none
@@ -68,9 +56,9 @@ module _ (type n : ℕ) (body : List ℕ) (h : length body ≡ 8 + 6 * n) (t : t
       let d = length-drop 4 body in
       let before = inRow (beforeEnd type n body) in
       let last = drop (4 + 6 * n) body in
-      Eights.more (ap (λ (j : ℕ). suc (suc (suc (suc j)))) k) (Octets.more (lit< tt) (Octets.more (lit< tt) (Octets.more t (Octets.more m (takes 4 b)))))
-      (continued-eights n (drop 4 body) (endGroup before last) (omega arith) (drops 4 b) (end-length before last (last-four type n body h))
-      (joined (Octets.more (lit< tt) (Octets.more (lit< tt) (drops (4 + 6 * n) b))) (sent-bytes (before ++ (0xCC ∷ 0 ∷ last)))))
+      Eights.more {g = startGroup type n (take 4 body)} (ap (λ (j : ℕ). suc (suc (suc (suc j)))) k) (lit< tt, (lit< tt, (t, (m, take-octets 4 body b))))
+      (continued-eights n (drop 4 body) (endGroup before last) (omega arith) (drop-octets 4 body b) (end-length before last (last-four type n body h))
+      (append-octets (0xCC ∷ 0 ∷ last) (sent (sumOf (before ++ (0xCC ∷ 0 ∷ last)))) (lit< tt, (lit< tt, drop-octets (4 + 6 * n) body b)) (sent-bytes (before ++ (0xCC ∷ 0 ∷ last)))))
 
   sent-items : (seen : List Frame) (w : Bool) → gathering seen ≡ atStart w → items (seen ++ framesOf (groupsOf type n body)) ≡ items seen ++ told (stringing seen) (message type body ∷ [])
   sent-items seen w e =

@@ -5,16 +5,12 @@ use mathlib.Core.List.{List, [], _∷_, _++_}
 use mathlib.Core.Path.{_≡_}
 use Prim.Native.Nat.{ℕ, suc, _<_}
 use lib.ListN.{length, take, drop}
+use Rattle.octets.specs.Words.{Octets}
 use Rattle.sum.specs.Sum.{sumOf}
 use Rattle.signalling.specs.declared.Kind.the-variants.{Start, Continuation, End, Other}
 use Rattle.signalling.specs.Groups.{Frame, Gathering, Gathered, group}
 use Rattle.signalling.specs.Messages.{kindOf, typeOf, grNb, groupBytes, messageBytes, endBytes, closingSum, Strung, shut, opened, Handed, message, dropped}
 use Rattle.sending.specs.SentGroups.{framesFrom}
-
--- each is a byte
-pub data Octets : List ℕ → Type 0 where
-  none : Octets []
-  more : {b : ℕ} {l : List ℕ} → b < 256 → Octets l → Octets (b ∷ l)
 
 -- groups of eight bytes
 pub data Eights : List (List ℕ) → Type 0 where

@@ -2,16 +2,17 @@
 -- Assumes nothing.
 use mathlib.Core.Bool.{Bool, true, false, _&&_}
 use mathlib.Core.List.{List, [], _∷_}
-use mathlib.Core.Path.{_≡_, refl, _∙_}
+use mathlib.Core.Path.{_≡_, refl, sym, _∙_}
 use Prim.Native.Nat.{ℕ, zero, suc, _+_}
 use native.Mathlib.Omega.{arith}
 use borrow.Author.Tests.{ne-eqb, eqb-true}
 use lib.Dec.{eqb}
 use lib.ListN.{getD}
+use Rattle.octets.proofs.Deciding.{both, clash}
 use Rattle.sum.specs.Sum.{digit}
 use Rattle.log.specs.declared.Entry.{Entry}
 use Rattle.log.specs.Log.{allowed, lostCode, entriesOf, recordsIn, logRefusalOf, AllAllowed}
-use Rattle.log.proofs.Accepted.{all-allowed, both}
+use Rattle.log.proofs.Accepted.{all-allowed}
 use Rattle.sheet.specs.Sheets.{count, isFrame, isLost, frameAt, lostBy, sheetOf, total}
 use Rattle.sheet.proofs.RowsMean.{frame-parts, code-le, frames-at, lost-by, idle-in}
 use Rattle.sheet.proofs.Weeks.{adds-up}
@@ -26,13 +27,10 @@ one-level zero c (suc (suc (suc zero))) a = refl
 one-level zero c (suc (suc (suc (suc v)))) a = let q = frame-parts c (suc (suc (suc (suc v)))) a .1 in absurd (omega arith)
 one-level (suc k) c v a = rw (ne-eqb (suc k) 0 (λ (e : suc k ≡ 0). omega arith))
 
-clash : false ≡ true → ⊥
-clash h = let z : _≡_ {A = ℕ} 0 1 = cc in omega arith
-
 -- a lost mark has one of the eight codes
 no-code : (c v : ℕ) → lostCode c ≡ false → allowed 1 c v ≡ true → ⊥
 unfolding allowed
-no-code c v e a = let q = both (eqb v 0xFF) (lostCode c) a .1 in clash (rw e at q)
+no-code c v e a = let q = both (eqb v 0xFF) (lostCode c) a .1 in clash (sym (rw e at q))
 
 one-code : (k c v : ℕ) → allowed k c v ≡ true
     → digit (eqb k 1 && eqb c 2) + digit (eqb k 1 && eqb c 3) + digit (eqb k 1 && eqb c 5) + digit (eqb k 1 && eqb c 6) + digit (eqb k 1 && eqb c 7) + digit (eqb k 1 && eqb c 8) + digit (eqb k 1 && eqb c 9) + digit (eqb k 1 && eqb c 10)

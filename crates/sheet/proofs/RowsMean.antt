@@ -8,10 +8,10 @@ use native.Mathlib.Omega.{arith}
 use borrow.Author.Tests.{eq-eqb, ne-eqb, eqb-true, eqb-false, leb-true}
 use lib.Dec.{eqb, leb}
 use lib.ListN.{length, getD, getD-replicate}
+use Rattle.octets.proofs.Deciding.{both}
 use Rattle.sum.specs.Sum.{digit}
 use Rattle.log.specs.declared.Entry.{Entry}
 use Rattle.log.specs.Log.{allowed, allowedEntry, lostCode, AllAllowed}
-use Rattle.log.proofs.Accepted.{both}
 use Rattle.sheet.specs.Sheets.{count, isFrame, isLost, isIdle, frameAt, lostBy, rowBy, inRow, nothing, added, sheetOf}
 use Rattle.sheet.proofs.Totals.{total-at}
 

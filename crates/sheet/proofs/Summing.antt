@@ -8,11 +8,11 @@ use native.Mathlib.Omega.{arith}
 use borrow.Author.Tests.{eq-eqb, ne-eqb, lt-ltb, le-ltb, leb-true, ltb-true, not-false}
 use lib.Dec.{ltb, leb}
 use lib.ListN.{length, getD}
+use Rattle.octets.proofs.Deciding.{both}
 use Rattle.frame.specs.Rules.{Rule, _when_}
 use Rattle.frame.proofs.FirstRule.{first-found, first-zero, none-hold, none-first}
 use Rattle.log.specs.declared.Entry.{Entry}
 use Rattle.log.specs.Log.{entryFrom, entriesTo, badFrom, recordsIn, logRulesOf, logRefusalOf, Judges}
-use Rattle.log.proofs.Accepted.{both}
 use Rattle.log.proofs.Returned.{entries-more, entries-length}
 use Rattle.sheet.specs.declared.Run.{Run}
 use Rattle.sheet.specs.declared.Sheet.{Sheet}

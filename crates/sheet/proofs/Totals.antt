@@ -12,9 +12,9 @@ use borrow.Author.Tests.{eqb-true, eqb-false, ltb-true, ltb-false, leb-true, le-
 use lib.Dec.{eqb, ltb, leb}
 use lib.ListN.{length, getD, set, drop, length-append, length-set, List·getD-append, List·getD-eq-default}
 use lib.Seq.{getD-set-same, getD-set-other, ext-getD, getD-at, drop-cons, drop-length}
+use Rattle.octets.proofs.Deciding.{both}
 use Rattle.sum.specs.Sum.{digit}
 use Rattle.log.specs.declared.Entry.{Entry}
-use Rattle.log.proofs.Accepted.{both}
 use Rattle.sheet.specs.Sheets.{count, rowBy, inRow, totalsTo, totalsAdded, allAtMost}
 
 pub count-append : (t : Entry → Bool) (es fs : List Entry) → count t (es ++ fs) ≡ count t es + count t fs

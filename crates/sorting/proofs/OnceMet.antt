@@ -10,11 +10,11 @@ use borrow.Author.Tests.{eq-eqb, ne-eqb, lt-ltb, le-ltb, leb-true, eqb-true, ltb
 use lib.Dec.{eqb, ltb, leb}
 use lib.ListN.{length, getD}
 use Rattle.octets.specs.Choice.{pick}
+use Rattle.octets.proofs.Deciding.{both}
 use Rattle.frame.specs.Rules.{first}
 use Rattle.frame.proofs.FirstRule.{none-hold}
 use Rattle.items.specs.TagItems.{Item, itemsOf, partOf, numberBy, someBad, valuesOf, valueOf, highestIn, eachOnce}
 use Rattle.items.specs.PassNotes.{tallyOf, Holds, Noted, ValueAt, Placed}
-use Rattle.items.proofs.ItemList.{both}
 use Rattle.tags.specs.TagValues.{lengthFor, levelIn}
 use Rattle.sorting.specs.TagRules.{isManaged, itemRulesOf, Sorts}
 use Rattle.sorting.specs.SortClauses.{onceTo, Sound}

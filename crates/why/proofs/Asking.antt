@@ -7,6 +7,7 @@ use mathlib.Core.List.{List, List·Memᴰ}
 use native.Mathlib.Omega.{arith}
 use lib.ListN.{length}
 use borrow.Author.Tests.{eq-eqb, ne-eqb, le-leb, lt-leb, lt-ltb, le-ltb}
+use Rattle.octets.proofs.Deciding.{clash}
 use Rattle.frame.specs.Rules.{refusalOf}
 use Rattle.walk.specs.declared.Begun.{Begun}
 use Rattle.walk.specs.declared.Begun.the-variants.{Walk, Refused as NotBegun}
@@ -26,7 +27,7 @@ use Rattle.why.specs.declared.Found.the-variants.{Hunted, At, Later}
 use Rattle.why.specs.Why.{followed, Applies, whyRefusalOf, Answers}
 use Rattle.why.specs.WhyClauses.{huntedFor, Says, Asked}
 use Rattle.why.proofs.AnswersFixed.{because, refusing}
-use Rattle.why.proofs.Covers.{Fresh, clash}
+use Rattle.why.proofs.Covers.{Fresh}
 use Rattle.why.proofs.Reasons.{fair}
 use Rattle.why.proofs.Seeking.{Onto, True, widen, step-tells}
 

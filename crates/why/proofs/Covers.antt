@@ -10,6 +10,7 @@ use native.Mathlib.Omega.{arith}
 use native.Mathlib.Decide.{decLe}
 use lib.Dec.{leb}
 use borrow.Author.Tests.{le-leb, lt-leb}
+use Rattle.octets.proofs.Deciding.{clash}
 use Rattle.walk.specs.declared.Item.{Item}
 use Rattle.walk.specs.declared.Position.{Position}
 use Rattle.walk.specs.Walk.{Judged, frameAt, live, itemAt, look, looks, giving, itemsOf}
@@ -25,9 +26,6 @@ pub record Covers (R : Judged) (p : ℕ) (s : Position) : Type 0 where
 -- a state in lock has misses to spare
 abbrev pub Fresh : Judged → Position → Type 0
 Fresh R s = s .lock ≡ true → s .misses < R .limit
-
-pub clash : {A : Type 0} → true ≡ false → A
-clash e = let z : _≡_ {A = ℕ} 0 1 = cc in absurd (omega arith)
 
 module _ (R : Judged) (positive : 0 < R .period) where
   -- ---- the looks

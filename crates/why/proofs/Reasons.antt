@@ -14,6 +14,7 @@ use lib.ListN.{length}
 use borrow.Author.Tests.{eq-eqb, ne-eqb}
 use Rattle.frame.specs.declared.Header.{Header}
 use Rattle.octets.specs.Choice.{pick}
+use Rattle.octets.proofs.Deciding.{clash}
 use Rattle.walk.specs.declared.Item.{Item}
 use Rattle.walk.specs.declared.Item.the-variants.{Frame, Idle, Lost as LostMark}
 use Rattle.walk.specs.declared.Position.{Position}
@@ -24,7 +25,7 @@ use Rattle.walk.proofs.ByRules.{further}
 use Rattle.why.specs.declared.Reason.{Reason}
 use Rattle.why.specs.declared.Reason.the-variants.{HandedOut, Lost, Refused, NotStanding, SameSync, SteppedOver}
 use Rattle.why.specs.Why.{Come, HandedAt, HuntedOver, followed, AppliesIn, OutAt, Applies}
-use Rattle.why.proofs.Covers.{Covers, Fresh, clash, one-cover, some-cover, gives-place, leaps, given, gives}
+use Rattle.why.proofs.Covers.{Covers, Fresh, one-cover, some-cover, gives-place, leaps, given, gives}
 
 -- ---- one look, by what decides it: lock, whether the place stands, is a null transmission, is confirmed, is followed; its header and number
 abbrev givesBy : Bool → Bool → Bool → Bool → ℕ → Header → ℕ → Option Item

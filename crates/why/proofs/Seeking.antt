@@ -8,6 +8,7 @@ use mathlib.Core.Logic.{_⊎_, inl, inr}
 use mathlib.Core.Option.{Option, none, some}
 use native.Mathlib.Omega.{arith}
 use native.Mathlib.Nat.{eq-or-lt-of-le}
+use Rattle.octets.proofs.Deciding.{clash}
 use Rattle.walk.specs.declared.Item.{Item}
 use Rattle.walk.specs.declared.Item.the-variants.{Frame, Idle, Done, Lost as LostMark}
 use Rattle.walk.specs.declared.Position.{Position}
@@ -21,7 +22,7 @@ use Rattle.why.specs.declared.Found.{Found}
 use Rattle.why.specs.declared.Found.the-variants.{Hunted, At, Later}
 use Rattle.why.specs.Why.{Come, AppliesIn}
 use Rattle.why.specs.WhyClauses.{huntedFor, SaysAt, Says}
-use Rattle.why.proofs.Covers.{Fresh, clash, first-look, later-look, still-live, stays-fresh, gives-place}
+use Rattle.why.proofs.Covers.{Fresh, first-look, later-look, still-live, stays-fresh, gives-place}
 use Rattle.why.proofs.Reasons.{hereFor, by-look, here-applies, past-applies, look-applies, silent-here, header-here}
 
 -- the walk goes on from s to t, not past p

@@ -84,7 +84,7 @@ OutAt p xs = ((h : Header) × List·Memᴰ (Frame p h) xs) ⊎ List·Memᴰ (Idl
 abbrev pub Applies : List ℕ → ℕ → ℕ → Reason → Type 0
 Applies bytes limit place r = AppliesIn (judged limit bytes) place (looks (judged limit bytes) begin) r
 
--- "27 for the limit first, then 34 for a place outside 0 to length - 6,144", which is any place where the record is shorter
+-- 27 for the limit first, then 34 for a place outside 0 to length - 6,144, which is any place where the record is shorter
 unfoldable pub whyRefusalOf : List ℕ → ℕ → ℕ → ℕ
 whyRefusalOf bytes limit place = first ((27 when not (allowed limit)) ∷ (34 when ltb (length bytes) (place + 6144)) ∷ [])
 
