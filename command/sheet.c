@@ -60,7 +60,7 @@ unsigned long long total(const uint8_t *sheet, unsigned row) {
 unsigned long long all_items(const uint8_t *sheet) {
     unsigned long long all = 0;
     unsigned row;
-    for (row = 0; row < SPINDLEWREN_ROWS; row++) all += total(sheet, row);
+    for (row = 0; row < SPINDLEWREN_SHEET_ROWS; row++) all += total(sheet, row);
     return all;
 }
 
