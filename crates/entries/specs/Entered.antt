@@ -8,10 +8,16 @@ use lib.Dec.{eqb}
 use lib.ListN.{length, getD}
 use Rattle.frame.specs.declared.Fields.{Fields}
 use Rattle.frame.specs.declared.Stream.{Stream}
+use Rattle.frame.specs.declared.Timestamp.{Timestamp}
+use Rattle.frame.specs.declared.Timestamp.the-variants.{Absent, Time, Reserved}
 use Rattle.octets.specs.Choice.{pick}
 use Rattle.octets.specs.Words.{twoAt, wordAt}
-use Rattle.frame.specs.Answers.{timestampBy, tableBy}
+use Rattle.frame.specs.Answers.{tableBy}
 use Rattle.frame.specs.Writing.{writingRefusalOf, writtenOf}
+
+-- the timestamp of a sort and a number
+unfoldable pub timestampBy : ℕ → ℕ → Timestamp
+timestampBy sort n = pick (eqb sort 0) Absent (pick (eqb sort 1) (Time n) (Reserved n))
 
 -- entry i: SCID, SAD, TPL, STL
 unfoldable pub entryIn : List ℕ → ℕ → Stream

@@ -35,10 +35,6 @@ timeBy (Reserved n) = n
 abbrev pub timestampValues : Timestamp → List ℕ
 timestampValues t = sortOf t ∷ timeBy t ∷ []
 
--- the timestamp of a sort and a number
-unfoldable pub timestampBy : ℕ → ℕ → Timestamp
-timestampBy sort n = pick (eqb sort 0) Absent (pick (eqb sort 1) (Time n) (Reserved n))
-
 -- the timestamp of the 24 bits: FFFFFF means that none is given; 0 to F9FFFF is a time, FA0000 to FFFFFE is reserved
 unfoldable pub timestampFor : ℕ → Timestamp
 timestampFor n = pick (eqb n 0xFFFFFF) Absent (pick (ltb 0xF9FFFF n) (Reserved n) (Time n))

@@ -1,2 +1,3 @@
+pub mod BackFixed
 pub mod ReadBack
 pub mod Hop

@@ -16,6 +16,6 @@ pub record Ready (s : Sheet) (l : List ℕ) (n : ℕ) : Type 0 where
   pub goes : goesOn s n ≡ true
   pub sixteen : length (s .totals) ≡ 16
 
--- whole records, and a sheet that cannot go on
+-- a sheet that cannot go on
 pub record Stopped (s : Sheet) (l : List ℕ) : Type 0 where
   pub stops : goesOn s (recordsIn l) ≡ false

@@ -1,6 +1,6 @@
 use Rattle.octets.proofs.Deciding.{tests}
-use Rattle.frame.specs.Answers.{timestampBy}
 use borrow.Author.Needs.{needs}
+use Rattle.entries.specs.Entered.{timestampBy}
 use Rattle.entries.proofs.timestamp.Statement.{statement}
 use Rattle.entries.proofs.timestamp.Tie as tie
 
