@@ -7,6 +7,7 @@ SECONDS = 600
 SEED = $(shell date +%s)
 
 run:
+	@[ ! -d "$(RECORD)" ] || { echo "$(RECORD): is a directory" >&2; exit 1; }
 	@tools/run listing <"$(RECORD)"
 
 rows:

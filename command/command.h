@@ -108,6 +108,7 @@ void fail(const char *file, const char *reason);
 
 /* .. where the reason is a refusal number. */
 void refuse(const char *file, uint8_t refusal);
+void refuse_at(const char *file, size_t place, uint8_t refusal);
 
 /* Ends the command with WRONG_USE: what is wrong, as printf has it, on standard error, and whose help tells more, the verb's or, of none, that of all. */
 void wrong_use(const struct verb *verb, const char *what, ...);

@@ -12,7 +12,7 @@ enum { LONGEST = 96 };
 struct listing {
     size_t json;
     int coloured;
-    unsigned long long lost;
+    unsigned long long lost, frames;
     size_t most, used;
     char text[1 << 14];
 };
@@ -92,6 +92,7 @@ static void line(const uint8_t *item, uint64_t place, const uint8_t *walk, void 
         return;
     }
     l->lost += kind == SPINDLEWREN_IS_LOST;
+    l->frames += kind == SPINDLEWREN_IS_FRAME;
     if (l->json) as_json(place, kind, code, walk[SPINDLEWREN_ITEM_LEVEL]);
     else as_text(l, place, kind, code, walk[SPINDLEWREN_ITEM_LEVEL]);
 }
@@ -103,5 +104,5 @@ void list(const struct request *asked) {
     /* what is looked at as it comes waits for nothing */
     if (!is_line(asked->file) && !isatty(STDOUT_FILENO)) l.most = sizeof l.text - LONGEST;
     each_item(asked, "place kind code level", line, &l);
-    if (asked->strict && l.lost > 0) finish(NOT_ALL);
+    if (asked->strict && (l.lost > 0 || l.frames == 0)) finish(NOT_ALL);
 }

@@ -27,7 +27,7 @@ static void help(const struct verb *only) {
     printf("usage: spindlewren VERB [OPTION ..] FILE ..\n");
     for (i = 0; i < VERBS; i++)
         if (only == NULL || only == &verbs[i]) printf("  spindlewren %s %s\n      %s\n", verbs[i].name, verbs[i].words, verbs[i].help);
-    printf("FILE may be - for standard input: a walk goes by the line as it comes, of any length.\n");
+    printf("FILE may be - for standard input%s.\n", only == NULL || (only->takes & TAKES_LIMIT && !(only->takes & TAKES_PLACE)) ? ": a walk goes by it as it comes, of any length" : "");
     if (only == NULL || only->takes & (TAKES_PLACE | MAY_TAKE_PLACE)) printf("PLACE is a byte's number in the file, from 0 on.\n");
     tell_options(only);
     printf("  --help, --version\n"

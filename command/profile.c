@@ -101,5 +101,5 @@ void profile(const struct request *asked) {
     struct count count = {asked->json, 0, 0};
     each_item(asked, "place: profile", judge, &count);
     in_all(&count);
-    if (asked->strict && count.passing < count.frames) finish(NOT_ALL);
+    if (asked->strict && (count.passing < count.frames || count.frames == 0)) finish(NOT_ALL);
 }

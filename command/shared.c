@@ -23,6 +23,12 @@ void refuse(const char *file, uint8_t refusal) {
     fail(file, reason);
 }
 
+void refuse_at(const char *file, size_t place, uint8_t refusal) {
+    char reason[128];
+    snprintf(reason, sizeof reason, "at %llu: %s (refusal %u)", (unsigned long long)place, spindlewren_label(refusal), refusal);
+    fail(file, reason);
+}
+
 void wrong_use(const struct verb *verb, const char *what, ...) {
     va_list words;
     fprintf(stderr, "spindlewren: ");

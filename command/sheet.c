@@ -26,7 +26,7 @@ static void tell_bad(const char *file, unsigned long long number, const uint8_t 
     static const char *const kinds[] = {"a frame", "a lost mark", "an idle item"};
     unsigned kind = record[SPINDLEWREN_LOG_KIND], code = record[SPINDLEWREN_LOG_CODE], level = record[SPINDLEWREN_LOG_LEVEL];
     char reason[160];
-    int n = snprintf(reason, sizeof reason, "record %llu: ", number);
+    int n = snprintf(reason, sizeof reason, "record %llu, at byte %llu: ", number, number * SPINDLEWREN_LOG_RECORD);
     char *rest = reason + n;
     size_t room = sizeof reason - (size_t)n;
     if (kind >= SPINDLEWREN_IS_DONE)

@@ -164,8 +164,8 @@ void show(const struct request *asked) {
         fail(asked->file, "no frame is handed out");
     }
     record = map(asked->file);
-    if (record.len < SPINDLEWREN_FRAME || asked->place > record.len - SPINDLEWREN_FRAME) refuse(asked->file, SPINDLEWREN_PLACE_OUTSIDE);
+    if (record.len < SPINDLEWREN_FRAME || asked->place > record.len - SPINDLEWREN_FRAME) refuse_at(asked->file, asked->place, SPINDLEWREN_PLACE_OUTSIDE);
     refusal = spindlewren_read(record.bytes + asked->place, SPINDLEWREN_FRAME, answer, sizeof answer);
-    if (refusal != SPINDLEWREN_ACCEPTED) refuse(asked->file, refusal);
+    if (refusal != SPINDLEWREN_ACCEPTED) refuse_at(asked->file, asked->place, refusal);
     tell(asked, record.bytes + asked->place, asked->place, answer);
 }

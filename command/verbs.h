@@ -1,7 +1,7 @@
 /* The verbs, in the order of help: the word, its function, what it takes, its words and what it does. A new verb is a line here and a file of its own. */
 VERB("edi-frame", edi_frame, TAKES_SYNC, "[--sync N] FILE", "the frame that an EDI packet's tag items call for, its 6,144 bytes on standard output")
 VERB("extract", extract, TAKES_LIMIT | TAKES_PART | TAKES_FILL, "[--limit M] [--fill] FILE N", "the bytes of stream N, from 0 on, or of the FIC (fic), of every frame handed out")
-VERB("g704", g704, TAKES_LIMIT | TAKES_WAY, "out|back [--limit M] [--variant V] FILE", "a record's frames as multiframes of a leased line, or such multiframes as frames")
+VERB("g704", g704, TAKES_LIMIT | TAKES_WAY, "out [--limit M] [--variant V] FILE, or back [--variant V] FILE", "a record's frames as multiframes of a leased line, or such multiframes as frames")
 VERB("list", list, TAKES_LIMIT | TAKES_STRICT, "[--limit M] [--strict] FILE", "a line for each frame, lost mark and idle period, and the end")
 VERB("log", keep_log, TAKES_LIMIT, "[--limit M] FILE > LOG", "the fault log of a record: sixteen bytes for each frame, lost mark and idle period")
 VERB("profile", profile, TAKES_LIMIT | TAKES_STRICT, "[--limit M] [--strict] FILE", "of each frame handed out, whether it passes the final-stage profile, and what is in the way")

@@ -70,6 +70,7 @@ void why(const struct request *asked) {
     struct record record = map(asked->file);
     uint8_t answer[SPINDLEWREN_WHY];
     uint8_t refusal = spindlewren_why(record.bytes, record.len, asked->limit, asked->place, answer, sizeof answer);
+    if (refusal == SPINDLEWREN_PLACE_OUTSIDE) refuse_at(asked->file, asked->place, refusal);
     if (refusal != SPINDLEWREN_ACCEPTED) refuse(asked->file, refusal);
     if (asked->json) as_json(asked->place, reason_of(record, asked->place, answer));
     else as_text(asked->place, reason_of(record, asked->place, answer));

@@ -15,7 +15,7 @@ struct option {
 
 static const struct option options[] = {
     {"--limit", "M", TAKES_LIMIT, offsetof(struct request, limit), "so many lost marks in a row end the lock, 1 to 8; 3 unless given"},
-    {"--strict", NULL, TAKES_STRICT, offsetof(struct request, strict), "exit status 3 if anything was lost (list) or did not pass (profile)"},
+    {"--strict", NULL, TAKES_STRICT, offsetof(struct request, strict), "exit status 3 if anything was lost (list) or did not pass (profile), or no frame is handed out"},
     {"--fill", NULL, TAKES_FILL, offsetof(struct request, fill), "zero bytes for lost and idle periods"},
     {"--sync", "N", TAKES_SYNC, offsetof(struct request, sync), "the frame's sync word: 0 for 07 3A B6, which is taken unless given, or 1 for F8 C5 49"},
     {"--variant", "V", TAKES_WAY, offsetof(struct request, variant), "the information bytes of the line's multiframe: 5592, which is taken unless given, or 5376"},
@@ -52,11 +52,11 @@ static int option(const struct verb *verb, char **words, int left, struct reques
     const char *number = words[0][len] == '=' ? words[0] + len + 1 : left > 1 ? words[1] : "";
     size_t *to;
     if (found == NULL || (found->number == NULL && words[0][len] == '='))
-        wrong_use(verb, "not known: %s%s", words[0], words[0][1] == '-' ? "" : "; a file of that name stands behind --");
+        wrong_use(verb, "not known: %s%s", words[0], words[0][1] == '-' ? "" : "; a file of that name stands after --");
     if (!has(verb, found)) wrong_use(verb, "%s has no %s", verb->name, found->name);
     to = (size_t *)(void *)((char *)asked + found->at);
     asked->given |= found->takes;
-    if (found->number != NULL && !digits(number, to)) wrong_use(verb, "a number is needed behind %s", found->name);
+    if (found->number != NULL && !digits(number, to)) wrong_use(verb, "a number is needed after %s", found->name);
     if (found->number == NULL) *to = 1;
     return found->number != NULL && words[0][len] != '=' ? 2 : 1;
 }

@@ -181,13 +181,15 @@ def held(command, file, limit, items, end):
         done = subprocess.run([command, *words, "--limit", str(limit)], capture_output=True, **more)
         return done.returncode, done.stdout, done.stderr
     lost, frames = (any(item[1] == kind for item in items) for kind in ("lost", "frame"))
-    right = run("list", "--strict", file) == (3 if lost else 0, text(items, end), b"")
+    right = run("list", "--strict", file) == (3 if lost or not frames else 0, text(items, end), b"")
     with open(file, "rb") as line:
         status, out, err = run("list", "--json", "-", stdin=line)
     right = right and (status, err) == (0, b"") and same_objects(out, items, end)
     right = right and run("log", file) == (0, log(items), b"")
     status, out, err = run("extract", "--fill", file, "fic")
-    return right and ((status, out, err) == (0, fics(items), b"") if frames else (status, out) == (1, b"") and b"no frame is handed out" in err)
+    if fics(items):
+        return right and (status, out, err) == (0, fics(items), b"")
+    return right and (status, out) == (1, b"") and (b"no frame handed out has a FIC" if frames else b"no frame is handed out") in err
 
 
 def main(command, room):
