@@ -51,7 +51,7 @@ int main(int argc, char **argv) {
     if (!isatty(STDOUT_FILENO)) setvbuf(stdout, buffer, _IOFBF, sizeof buffer);
     /* no one else writes: locked once, and not at each line */
     flockfile(stdout);
-    if (given(argc, argv, "--help")) {
+    if (given(argc, argv, "--help") || given(argc, argv, "-h")) {
         help(verb);
     } else if (given(argc, argv, "--version")) {
         puts("spindlewren " VERSION);
