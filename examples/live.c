@@ -19,7 +19,7 @@ static struct {
 } line = {{0}, 0, 0, 1, {0}};
 
 static void fail(const char *why) {
-    fprintf(stderr, "line: %s\n", why);
+    fprintf(stderr, "live: %s\n", why);
     exit(EXIT_FAILURE);
 }
 

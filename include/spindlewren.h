@@ -200,8 +200,9 @@ uint8_t spindlewren_step(const uint8_t *record, size_t record_len, uint8_t *walk
 
 /* One step of a walk over a live line. `window` is the line's bytes from the walk's place on, as many as are there; `more` is 1, and 0 once the line
    has ended. Places are counted from the line's beginning. The walk's bytes then hold the advanced state and what is told: the next item, done once
-   the line has ended, or that more bytes are wanted. The next window begins at the advanced state's place; bytes are added to it only where
-   more are wanted, and then fewer than 12,288 are kept. 1 for walk's bytes of another length, then 12 for a lock or a `more` above 1. In an archive of its own: tools/archive living. */
+   the line has ended, or that more bytes are wanted. The next window begins at the advanced state's place; bytes are added to it only
+   where more are wanted, and then fewer than 12,288 are kept. 1 for walk's bytes of another length, then 12 for a lock or a `more` above 1.
+   In an archive of its own: tools/archive living. */
 uint8_t spindlewren_live(const uint8_t *window, size_t window_len, uint8_t more, uint8_t *walk, size_t walk_len);
 
 /* Why a place of a record was aired or not, in the walk from the record's beginning that gives up its lock after `limit` misses: exactly one reason.

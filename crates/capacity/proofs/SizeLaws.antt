@@ -10,7 +10,7 @@ use borrow.Author.Tests.{eq-eqb, ne-eqb, eqb-true, eqb-false, le-ltb, ltb-false,
 use lib.Dec.{eqb, ltb, leb}
 use lib.ListN.{getD, List·getD-eq-default}
 use Rattle.octets.specs.Choice.{pick, placeIn}
-use Rattle.octets.proofs.Deciding.{both}
+use Rattle.octets.proofs.Deciding.{clash, both}
 use Rattle.capacity.specs.Sizes.{rates, stls, unequalSizes, unequalSize, equalA, equalB, perN, equalSize, sizeBy, unitsBy, equalIn}
 
 -- STL times 8 is the rate times 3
@@ -126,9 +126,9 @@ unequal-le tpl stl h =
 pub part-le : (top most each n : ℕ) → each ≤ top → n ≤ most → n * each ≤ most * top
 part-le top most each n h k = mul-le-mul k h
 
-not-both : (a b : Bool) → (a && b) ≡ false → a ≡ true → b ≡ false
-not-both true b h e = h
-not-both false b h e = let z : _≡_ {A = ℕ} 0 1 = cc in absurd (omega arith)
+other-false : (a b : Bool) → (a && b) ≡ false → a ≡ true → b ≡ false
+other-false true b h e = h
+other-false false b h e = clash (sym e)
 
 fours : (n : ℕ) → n * 4 % 4 ≡ 0
 fours n = omega arith
@@ -181,15 +181,15 @@ module _ (half : ℕ) where
       go true b c x y z = rw x
       go false true c x y z =
           a-in (getD equalA (half / 1024 % 4) 0) (eqb-true (half / 4096) 8 y) refl 0 (λ k. refl)
-          (per-none 3 (getD equalA (half / 1024 % 4) 0) (half % 1024) (eqb-false (half % 1024 % 3) 0 (not-both (eqb (half / 4096) 8) (eqb (half % 1024 % 3) 0) s y)))
+          (per-none 3 (getD equalA (half / 1024 % 4) 0) (half % 1024) (eqb-false (half % 1024 % 3) 0 (other-false (eqb (half / 4096) 8) (eqb (half % 1024 % 3) 0) s y)))
       go false false true x y z =
           b-in (getD equalB (half / 1024 % 4) 0) (eqb-true (half / 4096) 9 z) refl 0 (λ k. refl)
-          (per-none 12 (getD equalB (half / 1024 % 4) 0) (half % 1024) (apart (eqb (half % 1024 % 3) 0) refl (not-both (eqb (half / 4096) 9) (eqb (half % 1024 % 3) 0 && eqb (half % 1024 / 3 % 4) 0) t z)))
+          (per-none 12 (getD equalB (half / 1024 % 4) 0) (half % 1024) (apart (eqb (half % 1024 % 3) 0) refl (other-false (eqb (half / 4096) 9) (eqb (half % 1024 % 3) 0 && eqb (half % 1024 / 3 % 4) 0) t z)))
         where
           apart : (d : Bool) → eqb (half % 1024 % 3) 0 ≡ d → (eqb (half % 1024 % 3) 0 && eqb (half % 1024 / 3 % 4) 0) ≡ false → half % 1024 % 12 ≡ 0 → ⊥
           apart true e u k =
               let q : half % 1024 / 3 ≡ half % 1024 / 12 * 4 = omega arith in
-              eqb-false (half % 1024 / 3 % 4) 0 (not-both (eqb (half % 1024 % 3) 0) (eqb (half % 1024 / 3 % 4) 0) u e) (ap (λ (n : ℕ). n % 4) q ∙ fours (half % 1024 / 12))
+              eqb-false (half % 1024 / 3 % 4) 0 (other-false (eqb (half % 1024 % 3) 0) (eqb (half % 1024 / 3 % 4) 0) u e) (ap (λ (n : ℕ). n % 4) q ∙ fours (half % 1024 / 12))
           apart false e u k = eqb-false (half % 1024 % 3) 0 e (omega arith)
       go false false false x y z =
           let h : 32768 ≤ half = ltb-false half 32768 x in
