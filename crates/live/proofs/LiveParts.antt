@@ -11,12 +11,12 @@ use lib.Dec.{leb, ltb}
 use lib.ListN.{length}
 use borrow.Author.Tests.{leb-false, le-leb, lt-leb, ltb-true, ltb-false, not-true}
 use Rattle.octets.specs.Choice.{pick}
+use Rattle.octets.proofs.Deciding.{both}
 use Rattle.frame.specs.Rules.{refusalOf}
 use Rattle.walk.specs.declared.State.{State}
 use Rattle.walk.specs.declared.Step.{Step}
 use Rattle.walk.specs.Walk.{hunting, locked}
 use Rattle.walk.specs.Records.{part, NoneStands, allowed, limitRefusalOf, within, stepAt}
-use Rattle.walk.proofs.ByRules.{and-left, and-right}
 use Rattle.walk.proofs.Limits.{number-allowed, number-outside}
 use Rattle.walk.proofs.Onward.{none-standing, walk-in, item-in}
 use Rattle.live.specs.Live.{placedAt, atStart, isDone, wants, standing, spare, tellingAt, waitingAt, overAt, far, liveAt}
@@ -49,19 +49,19 @@ module _ (more : Bool) (m k : ℕ) (lock : Bool) where
 
 pub wants-allowed : (m k : ℕ) (lock : Bool) → wants true m k lock ≡ true → allowed m ≡ true
 unfolding wants
-wants-allowed m k lock e = and-left (allowed m) _ e
+wants-allowed m k lock e = both (allowed m) _ e .0
 
 pub wants-few : (m k : ℕ) → wants true m k true ≡ true → k < m
 unfolding wants
-wants-few m k e = leb-false m k (not-true (leb m k) (and-right (allowed m) _ e))
+wants-few m k e = leb-false m k (not-true (leb m k) (both (allowed m) _ e .1))
 
 pub wants-now : (more : Bool) (m k : ℕ) (lock : Bool) → wants more m k lock ≡ true → wants true m k lock ≡ true
 unfolding wants
-wants-now more m k lock e = and-right more _ e
+wants-now more m k lock e = both more _ e .1
 
 pub live-now : (w : List ℕ) (more : Bool) (s : State) → wants more (s .limit) (s .position .misses) (s .position .lock) ≡ true → liveAt w true s ≡ liveAt w more s
 unfolding wants
-live-now w more s e = ap (λ (b : Bool). liveAt w b s) (sym (and-left more _ e))
+live-now w more s e = ap (λ (b : Bool). liveAt w b s) (sym (both more _ e .0))
 
 -- ---- the first place that stands
 pub first-inside : (w : List ℕ) (a q : ℕ) → q ≡ standing w a → a ≤ length w → q ≤ length w

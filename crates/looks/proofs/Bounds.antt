@@ -10,11 +10,12 @@ use lib.Dec.{lit<, leb}
 use lib.ListN.{length}
 use borrow.Author.Tests.{le-leb, lt-leb, leb-true}
 use Rattle.octets.specs.Choice.{pick}
+use Rattle.octets.proofs.Deciding.{both}
 use Rattle.frame.specs.declared.Header.{Header}
 use Rattle.walk.specs.declared.Position.{Position}
 use Rattle.walk.specs.Walk.{Judged, fits, confirmed, live, lookHunting, look, looks, hunting, begin}
 use Rattle.walk.specs.Records.{judged}
-use Rattle.walk.proofs.ByRules.{and-left, and-right, live-fits, further}
+use Rattle.walk.proofs.ByRules.{live-fits, further}
 use Rattle.walk.proofs.Looks.{looks-dead, looks-live, walk-ind}
 use Rattle.walk.proofs.Ending.{looks-bounded}
 use Rattle.looks.specs.Testing.{testsAt, testsIn, testsFrom, testsOf, allAlike}
@@ -27,7 +28,7 @@ module _ (R : Judged) where
     where
       go : (a b : Bool) → (R .stands (s .place) && fits R (s .place + R .period)) ≡ b → Q (pick a 1 (pick b 2 1))
       go true b e = one
-      go false true e = two (and-left (R .stands (s .place)) _ e) (leb-true (s .place + R .period + R .period) (R .len) (and-right (R .stands (s .place)) _ e))
+      go false true e = let p = both (R .stands (s .place)) _ e in two (p .0) (leb-true (s .place + R .period + R .period) (R .len) (p .1))
       go false false e = one
 
   two : (s : Position) → testsAt R s ≤ 2
@@ -128,13 +129,13 @@ module _ (len limit : ℕ) (header : ℕ → Header) where
   unfolding look lookHunting confirmed allAlike
   goes-on p k = rw (and-false (leb (p + 6144 + 6144) len))
 
-  both : (p k : ℕ) → p + 6144 + 6144 ≤ len → testsAt R (hunting p k) ≡ 2
+  two-tests : (p k : ℕ) → p + 6144 + 6144 ≤ len → testsAt R (hunting p k) ≡ 2
   unfolding testsAt allAlike
-  both p k h = rw (le-leb (p + 6144 + 6144) len h)
+  two-tests p k h = rw (le-leb (p + 6144 + 6144) len h)
 
-  last : (p k : ℕ) → len < p + 6144 + 6144 → testsAt R (hunting p k) ≡ 1
+  one-test : (p k : ℕ) → len < p + 6144 + 6144 → testsAt R (hunting p k) ≡ 1
   unfolding testsAt allAlike
-  last p k h = rw (lt-leb (p + 6144 + 6144) len h)
+  one-test p k h = rw (lt-leb (p + 6144 + 6144) len h)
 
   on : (p k : ℕ) → p + 6144 ≤ len → testsFrom R (hunting p k) ≡ testsAt R (hunting p k) + testsFrom R (hunting (p + 1) k)
   unfolding allAlike
@@ -149,8 +150,8 @@ module _ (len limit : ℕ) (header : ℕ → Header) where
   met (suc n) p k e = go (decLe (p + 6144 + 6144) len) (met n (p + 1) k (omega arith))
     where
       go : Dec (p + 6144 + 6144 ≤ len) → testsFrom R (hunting (p + 1) k) ≡ n + (suc len - (p + 1 + 6144 + 6144)) → testsFrom R (hunting p k) ≡ suc n + (suc len - (p + 6144 + 6144))
-      go (yes l) ih = omega (arith, on p k (omega arith), both p k l)
-      go (no l) ih = omega (arith, on p k (omega arith), last p k (omega arith))
+      go (yes l) ih = omega (arith, on p k (omega arith), two-tests p k l)
+      go (no l) ih = omega (arith, on p k (omega arith), one-test p k (omega arith))
 
   pub best-met : testsFrom R begin ≡ len - 6143 + (len - 12287)
   best-met = omega (arith, met (suc len - 6144) 0 0 (omega arith))

@@ -2,42 +2,30 @@
 -- Assumes nothing.
 use Prim.Native.Nat.{ℕ, _+_, _≤_, _<_}
 use mathlib.Core.Path.{_≡_, refl}
-use mathlib.Core.Bool.{Bool, true, false, not, and-false, _&&_, _||_}
+use mathlib.Core.Bool.{Bool, true, false, and-false, _||_}
 use mathlib.Core.Option.{none, some}
 use lib.Dec.{leb, ltb}
 use native.Mathlib.Omega.{arith}
-use borrow.Author.Tests.{leb-true, leb-false, ltb-true, lt-leb}
+use borrow.Author.Tests.{leb-true, leb-false, ltb-true, lt-leb, not-true}
 use Rattle.frame.specs.declared.Header.{Header}
 use Rattle.octets.specs.Choice.{pick}
+use Rattle.octets.proofs.Deciding.{both}
 use Rattle.walk.specs.Walk.{Judged, Position, Item, Frame, Lost, Idle, Done, Look, fits, confirmed, live, frameAt, itemAt, keeps, lookLocked, lookHunting, look, locked, hunting}
 use Rattle.walk.specs.ItemValues.{placeOf}
 
-pub and-left : (a b : Bool) → (a && b) ≡ true → a ≡ true
-and-left true b e = refl
-and-left false b e = e
-
-pub and-right : (a b : Bool) → (a && b) ≡ true → b ≡ true
-and-right true b e = e
-and-right false b e = cc
-
 pub live-fits : (R : Judged) (s : Position) → live R s ≡ true → s .place + R .period ≤ R .len
 unfolding live
-live-fits R s e = leb-true (s .place + R .period) (R .len) (and-left (fits R (s .place)) _ e)
-
-not-spent : (a b : Bool) → (a && not b) ≡ true → b ≡ false
-not-spent true false e = refl
-not-spent true true e = cc
-not-spent false b e = cc
+live-fits R s e = leb-true (s .place + R .period) (R .len) (both (fits R (s .place)) _ e .0)
 
 pub live-few : (R : Judged) (p k : ℕ) → live R (locked p k) ≡ true → k < R .limit
 unfolding live
-live-few R p k e = leb-false (R .limit) k (not-spent (fits R p) (leb (R .limit) k) e)
+live-few R p k e = leb-false (R .limit) k (not-true (leb (R .limit) k) (both (fits R p) _ e .1))
 
 -- OF `confirmed`: it stands, and a place that does not, or has no period after it, is not confirmed
 module _ (R : Judged) (p : ℕ) where
   pub confirmed-stands : confirmed R p ≡ true → R .stands p ≡ true
   unfolding confirmed
-  confirmed-stands e = and-left (R .stands p) _ e
+  confirmed-stands e = both (R .stands p) _ e .0
 
   pub not-standing : R .stands p ≡ false → confirmed R p ≡ false
   unfolding confirmed

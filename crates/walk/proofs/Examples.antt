@@ -9,9 +9,9 @@ use lib.Dec.{eqb, leb}
 use borrow.Author.Tests.{leb-true, eqb-true, eqb-false, le-leb, lt-leb, eq-eqb, ne-eqb}
 use Rattle.frame.specs.declared.Header.{Header}
 use Rattle.octets.specs.Choice.{pick}
+use Rattle.octets.proofs.Deciding.{both}
 use Rattle.walk.specs.Walk.{Judged, Frame, Lost, Idle, Done, confirmed, live, itemAt, keeps, lookLocked, lookHunting, look, left, looksIn, looks, giving, itemsOf, items, restIn, rest, stepBy, stepIn, stepOf, calls, begin}
 use Rattle.walk.specs.AnyJudging.{Ends}
-use Rattle.walk.proofs.ByRules.{and-left}
 
 turn : (x : ℕ) → eqb (suc x % 2) 0 ≡ not (eqb (x % 2) 0)
 turn x = go (eqb (x % 2) 0) refl
@@ -55,7 +55,7 @@ module _ (header : ℕ → Header) where
           let h : a ≤ q = leb-true a q l in
           let w : (q - a) % 6144 ≡ 0 = eqb-true ((q - a) % 6144) 0 e in
           ((q - a) / 6144, omega arith, omega arith)
-      go q z room false l e = absurd (omega (arith, leb-true (q + 6144) a (and-left (leb (q + 6144) a) (stood q) e)))
+      go q z room false l e = absurd (omega (arith, leb-true (q + 6144) a (both (leb (q + 6144) a) (stood q) e .0)))
 
   -- THE FIRST PART IS SHARP: two false frames at another phase before the intact ones, which begin at 12,388
   abbrev pub off-phase : ℕ → Judged

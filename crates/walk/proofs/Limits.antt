@@ -7,6 +7,7 @@ use mathlib.Core.List.{List}
 use native.Mathlib.Omega.{arith}
 use lib.Dec.{leb}
 use borrow.Author.Tests.{le-leb, lt-leb, leb-true}
+use Rattle.octets.proofs.Deciding.{both}
 use Rattle.walk.specs.declared.Begun.the-variants.{Walk, Refused}
 use Rattle.walk.specs.declared.Moved.{Moved}
 use Rattle.walk.specs.declared.State.{State}
@@ -14,7 +15,6 @@ use Rattle.walk.specs.declared.Step.{Step}
 use Rattle.walk.specs.Walk.{Position, Done, begin, stepOf}
 use Rattle.walk.specs.Records.{judged, Allowed, allowed, limitRefusalOf, within, walkValues, Begins, stepWith, stepAt}
 use Rattle.walk.specs.StepClauses.{movedWith, movedAt}
-use Rattle.walk.proofs.ByRules.{and-left, and-right}
 
 pub is-allowed : (m : ℕ) → Allowed m → allowed m ≡ true
 unfolding allowed
@@ -22,7 +22,7 @@ is-allowed m (a, b) = rw (le-leb 1 m a, le-leb m 8 b)
 
 pub allowed-is : (m : ℕ) → allowed m ≡ true → Allowed m
 unfolding allowed
-allowed-is m e = (leb-true 1 m (and-left _ (leb m 8) e), leb-true m 8 (and-right (leb 1 m) _ e))
+allowed-is m e = let p = both (leb 1 m) (leb m 8) e in (leb-true 1 m (p .0), leb-true m 8 (p .1))
 
 pub not-allowed : (m : ℕ) → allowed m ≡ false → Allowed m → ⊥
 not-allowed m e a = let y = is-allowed m a in let z : _≡_ {A = ℕ} 0 1 = cc in omega arith

@@ -10,6 +10,7 @@ use lib.Dec.{lit<, eqb, ltb}
 use lib.ListN.{length, getD, replicate, length-append, length-replicate, List·getD-append}
 use lib.Seq.{take-at, drop-append-add}
 use borrow.Author.Tests.{ltb-true, ltb-false, not-true}
+use Rattle.octets.proofs.Deciding.{both}
 use Rattle.sum.specs.Sum.{sumOf, bit}
 use Rattle.frame.specs.Frame.{errOf, fsyncOf, fctOf, ficfOf, nstOf, midOf, flOf, ficlBy, streamsTo, stlTotal, headerSumOf}
 use Rattle.frame.specs.Rules.{someStlAbove, refusalOf}
@@ -19,7 +20,6 @@ use Rattle.frame.proofs.Accepting.{acceptable}
 use Rattle.frame.specs.Answers.{headerFor}
 use Rattle.walk.specs.Records.{part, start, callsAt}
 use Rattle.walk.specs.Demand3.{Keeping, EndsIn, outOf, outSince, framesOut, doneOut}
-use Rattle.walk.proofs.ByRules.{and-left, and-right}
 use Rattle.walk.proofs.OverBytes.{demand-3-first}
 use Rattle.periods.proofs.Marks.{byte-is, synced-marked}
 
@@ -72,9 +72,9 @@ calm (x ∷ l) = (ltb x 256 && not (starts x)) && calm l
 calm-at : (l : List ℕ) → calm l ≡ true → (k : ℕ) → (getD l k 0 < 256) × (starts (getD l k 0) ≡ false)
 calm-at [] e k = (lit< tt, refl)
 calm-at (x ∷ l) e zero =
-    let w = and-left _ (calm l) e in
-    (ltb-true x 256 (and-left _ (not (starts x)) w), not-true _ (and-right (ltb x 256) _ w))
-calm-at (x ∷ l) e (suc k) = calm-at l (and-right (ltb x 256 && not (starts x)) _ e) k
+    let p = both (ltb x 256) (not (starts x)) (both _ (calm l) e .0) in
+    (ltb-true x 256 (p .0), not-true _ (p .1))
+calm-at (x ∷ l) e (suc k) = calm-at l (both (ltb x 256 && not (starts x)) _ e .1) k
 
 calm-padding : (n : ℕ) → calm (replicate n 0x55) ≡ true
 calm-padding zero = refl
