@@ -20,42 +20,6 @@ abbrev μ-loop : tie.MeasureT-loop
 loop-holds : tie.Need-loop-holds Inv-loop μ-loop
 loop-holds c = filling-none _ _ _ _ (search needs)
 
-add-stream-data : tie.Need-add-stream-data Inv-loop μ-loop
-add-stream-data c =
-    let h = kept-count _ _ _ _ (c .before .before .before .before .pre .0) in
-    let f = c .before .loop .inv in
-    omega arith
-
-mul-stream-data : tie.Need-mul-stream-data Inv-loop μ-loop
-mul-stream-data c =
-    let h = kept-count _ _ _ _ (c .before .before .before .before .pre .0) in
-    let f = c .before .loop .inv in
-    omega arith
-
-array-read-stream-data : tie.Need-array-read-stream-data Inv-loop μ-loop
-array-read-stream-data c =
-    let h = kept-count _ _ _ _ (c .before .before .before .before .pre .0) in
-    let f = c .before .loop .inv in
-    omega arith
-
-add-stream-data-2 : tie.Need-add-stream-data-2 Inv-loop μ-loop
-add-stream-data-2 c =
-    let h = kept-count _ _ _ _ (c .before .before .before .before .pre .0) in
-    let f = c .before .loop .inv in
-    omega arith
-
-mul-stream-data-2 : tie.Need-mul-stream-data-2 Inv-loop μ-loop
-mul-stream-data-2 c =
-    let h = kept-count _ _ _ _ (c .before .before .before .before .pre .0) in
-    let f = c .before .loop .inv in
-    omega arith
-
-array-read-stream-data-2 : tie.Need-array-read-stream-data-2 Inv-loop μ-loop
-array-read-stream-data-2 c =
-    let h = kept-count _ _ _ _ (c .before .before .before .before .pre .0) in
-    let f = c .before .loop .inv in
-    omega arith
-
 add-next : tie.Need-add-next Inv-loop μ-loop
 add-next c =
     let start = c .before .before .before .before .before .before .before .before .before in
@@ -87,12 +51,12 @@ put-data-spec =
     Inv-loop
     μ-loop
     loop-holds
-    add-stream-data
-    mul-stream-data
-    array-read-stream-data
-    add-stream-data-2
-    mul-stream-data-2
-    array-read-stream-data-2
+    (λ c. omega (arith, kept-count _ _ _ _ (c .before .before .before .before .pre .0)))
+    (λ c. omega (arith, kept-count _ _ _ _ (c .before .before .before .before .pre .0)))
+    (λ c. omega (arith, kept-count _ _ _ _ (c .before .before .before .before .pre .0)))
+    (λ c. omega (arith, kept-count _ _ _ _ (c .before .before .before .before .pre .0)))
+    (λ c. omega (arith, kept-count _ _ _ _ (c .before .before .before .before .pre .0)))
+    (λ c. omega (arith, kept-count _ _ _ _ (c .before .before .before .before .pre .0)))
     (λ c κs. search needs)
     (λ c κs. search needs)
     add-next
