@@ -90,7 +90,7 @@ def long_work():
         told = [(int(share), float(speed), int(left)) for share, speed, left in re.findall(rb"(\d+) %, (\d+\.\d) MB/s, (\d+) s left", got)]
     hold("progress", told != [] and all(0 < share <= 100 and 0 < speed < 1000 and left < 600 for share, speed, left in told))
     hold("progress grows", [share for share, _, _ in told] == sorted(share for share, _, _ in told))
-    hold("progress is gone", status == 0 and screen(got) == ["spindlewren: %s: multiframes %d, rows not clean 0, frames not made 0" % (words[-1], count)])
+    hold("progress is gone", status == 0 and screen(got) == ["spindlewren: %s: multiframes %d, rows not clean 0, frames not made 0, main-stream sums wrong 0" % (words[-1], count)])
     hold("the frames are there", len(frames) == count * 6144)
     count *= 2
     make()

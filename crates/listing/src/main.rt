@@ -72,6 +72,12 @@ fn main() {
         text(b"too long\n");
         return;
     }
+    // read_full takes an error for the end; asked once more, only the end answers 0
+    let mut more = io::buffer();
+    if libc::read(0, &mut more) != 0 {
+        text(b"cannot read\n");
+        return;
+    }
     match walk::begin(3) {
         Begun::Walk(start) => list(&bytes[..n], start),
         Begun::Refused(_) => text(b"limit refused\n"),
