@@ -195,6 +195,9 @@ def bytes_written():
     written("g704 out", HERE + "four.5592", {"multiframes": 3, "frames_not_sent": 0}, "g704", "out", MADE + "/four.eti")
     written("g704 back", HERE + "four.back", {"multiframes": 3, "rows_not_clean": 0, "frames_not_made": 0, "sums_wrong": 0, "clean_as_other_variant": 0}, "g704", "back", HERE + "four.5592")
     written("g704 back, hit", HERE + "hit.back", {"multiframes": 3, "rows_not_clean": 3, "frames_not_made": 1, "sums_wrong": 0, "clean_as_other_variant": 0}, "g704", "back", HERE + "hit.5592", status=1)
+    status, out, err = run("g704", "back", HERE + "four.5376")
+    due = {"multiframes": 3, "rows_not_clean": 0, "frames_not_made": 0, "sums_wrong": 3, "clean_as_other_variant": 3}
+    hold("g704 back, 5376 as 5592", (status, len(out)) == (0, 3 * 6144) and objects(err) == [due])
     status, out, err = run("edi-frame", "samples/packet.edi")
     hold("edi-frame", status == 0 and out == open(HERE + "packet.eti", "rb").read(6144) and objects(err) == [{"frames": 1, "bytes": 6144}])
 
