@@ -4,7 +4,7 @@ use Rattle.std.specs.Prelude.{List, map, ℕ, eqb, get_or}
 use Rattle.octets.specs.Choice.{pick}
 use Rattle.octets.specs.Words.{eight_at}
 use Rattle.walk.specs.ItemValues.{frame_kind}
-use Rattle.log.specs.declared.Entry.{Entry}
+use Rattle.nightlog.specs.declared.Entry.{Entry}
 use Rattle.calls.specs.LiveCalls.{seen_since}
 
 -- the entry in what C sees of an item, the walk's bytes from KIND on: its place is ITEM, its kind KIND; of a frame the code is ITEM_FCT and the level ITEM_LEVEL, of the others NUMBER and FF

@@ -8,8 +8,8 @@ use lib.ListN.{length}
 use Rattle.octets.specs.Stores.{put}
 use Rattle.octets.specs.Words.{split, bytes8}
 use Rattle.octets.proofs.Storing.{put_chain, put_all}
-use Rattle.log.specs.declared.Entry.{Entry}
-use Rattle.log.specs.Log.{entry_from, Judges, Finds}
+use Rattle.nightlog.specs.declared.Entry.{Entry}
+use Rattle.nightlog.specs.Log.{entry_from, Judges, Finds}
 use Rattle.logs.specs.LogBytes.{judged_bytes, entry_bytes}
 
 -- ---- a log judged

@@ -3,8 +3,8 @@
 use Rattle.std.specs.Prelude.{List, [], ◌∷◌, ◌++◌, ℕ, eqb}
 use Rattle.octets.specs.Choice.{pick}
 use Rattle.octets.specs.Words.{split, bytes8}
-use Rattle.log.specs.declared.Entry.{Entry}
-use Rattle.log.specs.Log.{first_bad, log_refusal_of}
+use Rattle.nightlog.specs.declared.Entry.{Entry}
+use Rattle.nightlog.specs.Log.{first_bad, log_refusal_of}
 
 -- a log judged, nine bytes: its number, and the bad record for 29
 unfoldable pub judged_bytes : List ℕ → List ℕ

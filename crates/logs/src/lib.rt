@@ -1,11 +1,11 @@
 // Logs on numbers and byte slices, for C.
 ghost use Rattle.std.specs.Prelude.{[], ◌∷◌, ◌≡◌, ◌*◌, length};
 ghost use Rattle.octets.specs.Stores.{put};
-ghost use Rattle.log.specs.Log.{entry_from, entry_refusal_of, WritesEntry};
+ghost use Rattle.nightlog.specs.Log.{entry_from, entry_refusal_of, WritesEntry};
 ghost use Rattle.controller.specs.Boundary.{Told};
 ghost use Rattle.logs.specs.LogBytes.{judged_bytes, entry_bytes};
 
-use log::Entry;
+use nightlog::Entry;
 
 // An item into sixteen lent bytes: 37 for another length, then 29 for a kind, code or level that is not allowed; refused, not one byte is written.
 #[unsafe(no_mangle)]
@@ -24,7 +24,7 @@ pub extern "C" fn spindlewren_log_write(
         code,
         level,
     };
-    log::write(entry, out)
+    nightlog::write(entry, out)
 }
 
 fn put_number(out: &mut [u8], number: u8)
@@ -42,7 +42,7 @@ pub extern "C" fn spindlewren_log_judged(bytes: &[u8], out: &mut [u8]) -> u8
     if out.len() != 9 {
         return 1;
     }
-    let verdict = log::judge(bytes);
+    let verdict = nightlog::judge(bytes);
     let number = verdict.number;
     let bad = verdict.bad;
     put_number(out, number);
@@ -75,7 +75,7 @@ pub extern "C" fn spindlewren_log_entry(bytes: &[u8], i: usize, out: &mut [u8]) 
     if out.len() != 11 {
         return 1;
     }
-    let found = log::read(bytes, i);
+    let found = nightlog::read(bytes, i);
     let number = found.number;
     let entry = found.entry;
     if number != 0 {

@@ -18,7 +18,7 @@ use Rattle.frame.specs.Rules.{Rule, ◌when◌, first, rules_of, refusal_of, Acc
 use Rattle.frame.specs.Answers.{header_for}
 use Rattle.frame.proofs.Places.{status_placed}
 use Rattle.trips.proofs.ReadWritable.{level_le}
-use Rattle.log.specs.Log.{frame_kind as loggedFrame, lost_kind as loggedLost, idle_kind as loggedIdle, allowed, allowed_entry, lost_code, writing_refusal_of}
+use Rattle.nightlog.specs.Log.{frame_kind as loggedFrame, lost_kind as loggedLost, idle_kind as loggedIdle, allowed, allowed_entry, lost_code, writing_refusal_of}
 use Rattle.walk.specs.declared.Item.{Item}
 use Rattle.walk.specs.declared.Item.TheVariants.{Frame, Lost, Idle, Done}
 use Rattle.walk.specs.declared.State.{State}

@@ -9,9 +9,9 @@ use borrow.Author.Tests.{eqb-false}
 use lib.Dec.{eqb}
 use lib.ListN.{length}
 use Rattle.octets.specs.Choice.{pick}
-use Rattle.log.specs.declared.Entry.{Entry}
-use Rattle.log.specs.Log.{log_of, entries_of, log_refusal_of, AllAllowed, PlacesFit}
-use Rattle.log.proofs.LogWritten.{written_accepted, written_returns}
+use Rattle.nightlog.specs.declared.Entry.{Entry}
+use Rattle.nightlog.specs.Log.{log_of, entries_of, log_refusal_of, AllAllowed, PlacesFit}
+use Rattle.nightlog.proofs.LogWritten.{written_accepted, written_returns}
 use Rattle.walk.specs.declared.Item.{Item}
 use Rattle.walk.specs.declared.Item.TheVariants.{Frame, Lost, Idle, Done}
 use Rattle.walk.specs.declared.State.{State}

@@ -2,7 +2,7 @@
 -- Assumes nothing.
 use Rattle.std.specs.Prelude.{List, [], ◌∷◌, ℕ, eqb}
 use Rattle.octets.specs.Choice.{pick}
-use Rattle.log.specs.declared.Entry.{Entry}
+use Rattle.nightlog.specs.declared.Entry.{Entry}
 use Rattle.walk.specs.declared.Item.{Item}
 use Rattle.walk.specs.declared.Item.TheVariants.{Frame, Lost, Idle, Done}
 use Rattle.walk.specs.declared.Step.{Step}

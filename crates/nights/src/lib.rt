@@ -1,9 +1,9 @@
 // A night's items kept in a log: each item of a walk as a record of sixteen bytes.
 ghost use Rattle.std.specs.Prelude.{◌≡◌};
-ghost use Rattle.log.specs.Log.{WritesEntry};
+ghost use Rattle.nightlog.specs.Log.{WritesEntry};
 ghost use Rattle.nights.specs.Nights.{entry_of};
 
-use log::Entry;
+use nightlog::Entry;
 use walk::Item;
 
 fn entry_of(item: Item) -> Entry
@@ -42,5 +42,5 @@ pub fn keep(item: Item, out: &mut [u8]) -> u8
     ensures { WritesEntry (entry_of item) out.old out.new result }
 {
     let entry = entry_of(item);
-    log::write(entry, out)
+    nightlog::write(entry, out)
 }

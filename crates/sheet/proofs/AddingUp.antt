@@ -10,9 +10,9 @@ use lib.Dec.{eqb}
 use lib.ListN.{get_or}
 use Rattle.octets.proofs.Deciding.{both, clash}
 use Rattle.sum.specs.Sum.{digit}
-use Rattle.log.specs.declared.Entry.{Entry}
-use Rattle.log.specs.Log.{allowed, lost_code, entries_of, records_in, log_refusal_of, AllAllowed}
-use Rattle.log.proofs.Accepted.{all_allowed}
+use Rattle.nightlog.specs.declared.Entry.{Entry}
+use Rattle.nightlog.specs.Log.{allowed, lost_code, entries_of, records_in, log_refusal_of, AllAllowed}
+use Rattle.nightlog.proofs.Accepted.{all_allowed}
 use Rattle.sheet.specs.Sheets.{count, is_frame, is_lost, frame_at, lost_by, sheet_of, total}
 use Rattle.sheet.proofs.RowsMean.{frame_parts, code_le, frames_at, lost_by_lem, idle_in}
 use Rattle.sheet.proofs.Weeks.{adds_up}

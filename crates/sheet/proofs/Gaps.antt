@@ -9,7 +9,7 @@ use borrow.Author.Tests.{eq-eqb, ne_eqb}
 use lib.Dec.{eqb}
 use lib.ListN.{length}
 use Rattle.octets.specs.Choice.{pick}
-use Rattle.log.specs.declared.Entry.{Entry}
+use Rattle.nightlog.specs.declared.Entry.{Entry}
 use Rattle.sheet.specs.declared.Run.{Run}
 use Rattle.sheet.specs.Sheets.{fcts_of, is_frame, gap, gaps_after, gaps, missing, billion, missing_with, met_after, last_after, run_by, run_added, seam}
 

@@ -10,8 +10,8 @@ use lib.Dec.{eqb, leb}
 use lib.ListN.{length, get_or, get_or-replicate}
 use Rattle.octets.proofs.Deciding.{both}
 use Rattle.sum.specs.Sum.{digit}
-use Rattle.log.specs.declared.Entry.{Entry}
-use Rattle.log.specs.Log.{allowed, allowed_entry, lost_code, AllAllowed}
+use Rattle.nightlog.specs.declared.Entry.{Entry}
+use Rattle.nightlog.specs.Log.{allowed, allowed_entry, lost_code, AllAllowed}
 use Rattle.sheet.specs.Sheets.{count, is_frame, is_lost, is_idle, frame_at, lost_by, row_by, in_row, nothing, added, sheet_of}
 use Rattle.sheet.proofs.Totals.{total_at}
 

@@ -3,7 +3,7 @@
 -- Assumes nothing.
 use mathlib.Core.List.{List, [], ◌∷◌}
 use mathlib.Core.Path.{◌≡◌, refl}
-use Rattle.log.specs.declared.Entry.{Entry}
+use Rattle.nightlog.specs.declared.Entry.{Entry}
 use Rattle.sheet.specs.declared.Sheet.{Sheet}
 use Rattle.sheet.specs.Sheets.{count, row_by, totals_to, fcts_of, gaps, gaps_after, last_after, run_by, added, sheet_of}
 

@@ -9,8 +9,8 @@ use borrow.Author.Tests.{eqb-true, le-leb, lt-ltb}
 use lib.Dec.{eqb, leb}
 use lib.ListN.{length, get_or, replicate}
 use Rattle.octets.specs.Choice.{pick}
-use Rattle.log.specs.declared.Entry.{Entry}
-use Rattle.log.specs.Log.{allowed, AllAllowed}
+use Rattle.nightlog.specs.declared.Entry.{Entry}
+use Rattle.nightlog.specs.Log.{allowed, AllAllowed}
 use Rattle.sheet.specs.declared.Sheet.{Sheet}
 use Rattle.sheet.specs.Sheets.{fcts_of, is_frame, missing, billion, gaps, met_after, last_after, run_by, added, sheet_of, all_at_most, run_goes_on, goes_on, totals_to}
 use Rattle.sheet.proofs.Gaps.{missing_le, run_room}

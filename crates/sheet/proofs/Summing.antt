@@ -11,9 +11,9 @@ use lib.ListN.{length, get_or}
 use Rattle.octets.proofs.Deciding.{both}
 use Rattle.frame.specs.Rules.{Rule, ◌when◌}
 use Rattle.frame.proofs.FirstRule.{first_found, first_zero, none_hold, none_first}
-use Rattle.log.specs.declared.Entry.{Entry}
-use Rattle.log.specs.Log.{entry_from, entries_to, bad_from, records_in, log_rules_of, log_refusal_of, Judges}
-use Rattle.log.proofs.Returned.{entries_more, entries_length}
+use Rattle.nightlog.specs.declared.Entry.{Entry}
+use Rattle.nightlog.specs.Log.{entry_from, entries_to, bad_from, records_in, log_rules_of, log_refusal_of, Judges}
+use Rattle.nightlog.proofs.Returned.{entries_more, entries_length}
 use Rattle.sheet.specs.declared.Run.{Run}
 use Rattle.sheet.specs.declared.Sheet.{Sheet}
 use Rattle.sheet.specs.Sheets.{totals_added, billion, run_added, added, all_at_most, run_goes_on, goes_on, adding_rules_of, adding_refusal_of, Adds}

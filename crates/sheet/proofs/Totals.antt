@@ -14,7 +14,7 @@ use lib.ListN.{length, get_or, set, drop, length-append, length-set, get_or-appe
 use lib.Seq.{get_or-set_same, get_or-set_other, ext_get_or, get_or_at, drop-cons, drop-length}
 use Rattle.octets.proofs.Deciding.{both}
 use Rattle.sum.specs.Sum.{digit}
-use Rattle.log.specs.declared.Entry.{Entry}
+use Rattle.nightlog.specs.declared.Entry.{Entry}
 use Rattle.sheet.specs.Sheets.{count, row_by, in_row, totals_to, totals_added, all_at_most}
 
 pub count_append : (t : Entry → Bool) (es fs : List Entry) → count t (es ++ fs) ≡ count t es + count t fs

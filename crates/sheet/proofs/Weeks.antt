@@ -5,10 +5,10 @@ use mathlib.Core.Path.{◌≡◌, refl, sym, ap, ap₂, ◌∙◌}
 use Prim.Native.Nat.{ℕ, zero, suc, ◌+◌, ◌*◌, ◌≤◌, ◌<◌}
 use native.Mathlib.Omega.{arith}
 use lib.ListN.{length, get_or, length-append, get_or-append}
-use Rattle.log.specs.declared.Entry.{Entry}
-use Rattle.log.specs.Log.{entry_from, entries_to, entries_of, records_in, log_refusal_of}
-use Rattle.log.proofs.Accepted.{all_allowed}
-use Rattle.log.proofs.Returned.{entry_behind, entries_length}
+use Rattle.nightlog.specs.declared.Entry.{Entry}
+use Rattle.nightlog.specs.Log.{entry_from, entries_to, entries_of, records_in, log_refusal_of}
+use Rattle.nightlog.proofs.Accepted.{all_allowed}
+use Rattle.nightlog.proofs.Returned.{entry_behind, entries_length}
 use Rattle.sheet.specs.declared.Sheet.{Sheet}
 use Rattle.sheet.specs.Sheets.{count, is_frame, is_lost, is_idle, in_row, fcts_of, missing, billion, run_by, added, nothing, sheet_of, seam}
 use Rattle.sheet.proofs.Gaps.{run_joined, missing_joined}

@@ -1,7 +1,7 @@
 -- Nothing in this file need be believed: clauses between private functions.
 -- Assumes nothing.
 use Rattle.std.specs.Prelude.{true, false, List, ◌≡◌, ℕ, ◌/◌, ◌%◌, length}
-use Rattle.log.specs.Log.{records_in}
+use Rattle.nightlog.specs.Log.{records_in}
 use Rattle.sheet.specs.declared.Sheet.{Sheet}
 use Rattle.sheet.specs.Sheets.{goes_on}
 

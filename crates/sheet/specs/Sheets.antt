@@ -4,8 +4,8 @@ use Rattle.std.specs.Prelude.{Bool, true, not, ◌&&◌, List, [], ◌∷◌, �
 use Rattle.octets.specs.Choice.{pick}
 use Rattle.sum.specs.Sum.{digit}
 use Rattle.frame.specs.Rules.{Rule, ◌when◌, first}
-use Rattle.log.specs.declared.Entry.{Entry}
-use Rattle.log.specs.Log.{frame_kind, lost_kind, idle_kind, records_in, entries_of, first_bad, log_rules_of}
+use Rattle.nightlog.specs.declared.Entry.{Entry}
+use Rattle.nightlog.specs.Log.{frame_kind, lost_kind, idle_kind, records_in, entries_of, first_bad, log_rules_of}
 use Rattle.sheet.specs.declared.Run.{Run}
 use Rattle.sheet.specs.declared.Sheet.{Sheet}
 

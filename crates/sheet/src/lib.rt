@@ -3,7 +3,7 @@ ghost use Rattle.std.specs.Prelude.{true, [], ◌∷◌, ◌≡◌, ℕ, ◌+◌
 ghost use Rattle.sheet.specs.Sheets.{row_by, gap, totals_added, run_added, all_at_most, run_goes_on, goes_on, Adds};
 ghost use Rattle.sheet.specs.SheetClauses.{Ready, Stopped};
 
-use log::Entry;
+use nightlog::Entry;
 
 // What is kept from frame to frame: the frames missing, high times 1,000,000,000 and low; whether a frame was met, 0 or 1; the last one's FCT.
 #[derive(Drop)]
@@ -144,7 +144,7 @@ fn stopped(sheet: Sheet, log: &[u8]) -> Added
     requires { Stopped sheet log.now }
     ensures { Adds sheet log.now result.number result.bad result.sheet }
 {
-    let verdict = log::judge(log);
+    let verdict = nightlog::judge(log);
     let number = verdict.number;
     let bad = verdict.bad;
     if number != 0 {
@@ -166,7 +166,7 @@ fn summed(sheet: Sheet, log: &[u8], n: usize) -> Added
     let mut run = sheet.run;
     let mut i = 0;
     while i < n {
-        let found = log::read(log, i);
+        let found = nightlog::read(log, i);
         let number = found.number;
         let entry = found.entry;
         if number != 0 {

@@ -13,10 +13,10 @@ use Rattle.octets.specs.Stores.{bytes_of_each}
 use Rattle.octets.specs.Words.{split, bytes8, eight_at}
 use Rattle.octets.proofs.SplitJoin.{join_split}
 use Rattle.octets.proofs.Storing.{each_length}
-use Rattle.log.specs.declared.Entry.{Entry}
-use Rattle.log.specs.Log.{records_in, entries_to, entries_of, log_refusal_of, AllAllowed}
-use Rattle.log.proofs.Accepted.{whole, all_allowed}
-use Rattle.log.proofs.Returned.{behind, moved, entries_length}
+use Rattle.nightlog.specs.declared.Entry.{Entry}
+use Rattle.nightlog.specs.Log.{records_in, entries_to, entries_of, log_refusal_of, AllAllowed}
+use Rattle.nightlog.proofs.Accepted.{whole, all_allowed}
+use Rattle.nightlog.proofs.Returned.{behind, moved, entries_length}
 use Rattle.sheet.specs.declared.Sheet.{Sheet}
 use Rattle.sheet.specs.Sheets.{count, totals_to, fcts_of, gaps, last_after, run_by, added, sheet_of, goes_on, adding_refusal_of}
 use Rattle.sheet.proofs.SheetRoom.{sheet_goes_on, totals_hold, run_holds}

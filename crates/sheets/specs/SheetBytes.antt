@@ -3,7 +3,7 @@
 use Rattle.std.specs.Prelude.{List, [], ◌∷◌, ◌++◌, ◌≡◌, ℕ, zero, suc, ◌*◌, ◌<◌, ◌^◌, length, get_or, replicate}
 use Rattle.octets.specs.Stores.{bytes_of_each}
 use Rattle.octets.specs.Words.{split, bytes8, eight_at}
-use Rattle.log.specs.Log.{records_in, entries_of, AllAllowed}
+use Rattle.nightlog.specs.Log.{records_in, entries_of, AllAllowed}
 use Rattle.sheet.specs.declared.Sheet.{Sheet}
 use Rattle.sheet.specs.Sheets.{added, sheet_of, adding_refusal_of}
 use Rattle.controller.specs.Boundary.{Told}
