@@ -1,4 +1,6 @@
 // What reading hands out of a frame, run: a row for each field, sort of timestamp, entry and part.
+#![tactic(auto)]
+
 use frame::{Header, Stream, Timestamp};
 use workbench::build::{Given, build, header, plain};
 use workbench::line;

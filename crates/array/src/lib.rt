@@ -1,4 +1,6 @@
 // The coding array and the output array of clause 8.4: definitions in specs/, laws in proofs/; a variant's width and the lengths of its parts.
+#![tactic(auto)]
+
 ghost use Rattle.std.specs.Prelude.{◌≡◌};
 ghost use Rattle.array.specs.CodingArray.{width_of, Wide};
 ghost use Rattle.array.specs.PartLengths.{parts_refusal};

@@ -1,4 +1,6 @@
 // A walk's block of 23 bytes at the C boundary: the state in it read, and a state stored with what it told last.
+#![tactic(auto)]
+
 ghost use Rattle.std.specs.Prelude.{[], ◌∷◌, ◌≡◌, ◌≤◌, length};
 ghost use Rattle.octets.specs.Stores.{put};
 ghost use Rattle.block.specs.WalkBytes.{told_bytes, step_bytes, state_in};

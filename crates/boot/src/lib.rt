@@ -1,4 +1,6 @@
 // The boot loader's sum: the small one, alone in its archive.
+#![tactic(auto)]
+
 ghost use Rattle.std.specs.Prelude.{◌≡◌};
 ghost use Rattle.sum.specs.Sum.{sum_of};
 

@@ -1,1 +1,2 @@
 // Calls from C one after another: definitions in specs/, theorems in proofs/.
+#![tactic(auto)]

@@ -1,4 +1,6 @@
 // The size of a sub-channel in capacity units, from TPL and STL.
+#![tactic(auto)]
+
 ghost use Rattle.std.specs.Prelude.{◌≡◌, ◌<◌, ◌≤◌, get_or};
 ghost use Rattle.octets.specs.Choice.{place_in};
 ghost use Rattle.capacity.specs.Sizes.{stls, equal_a, equal_b, per_n, unequal_sizes, unequal_size, equal_size, size_by, units_by, equal_in};

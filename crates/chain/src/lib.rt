@@ -1,1 +1,2 @@
 // Chains of relays: definitions in specs/, laws in proofs/.
+#![tactic(auto)]

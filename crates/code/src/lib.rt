@@ -1,4 +1,6 @@
 // The Reed-Solomon code of clause 8.6, over the number of check bytes.
+#![tactic(auto)]
+
 ghost use Rattle.std.specs.Prelude.{false, map, ◌++◌, ◌≡◌, ◌≤◌, length};
 ghost use Rattle.octets.specs.Words.{split, bytes8};
 ghost use Rattle.octets.specs.Stores.{put};
@@ -8,7 +10,7 @@ ghost use Rattle.code.specs.CodeClauses.{bytes5, bytes6, five, first_six, last_e
 ghost use Rattle.code.specs.CodeAnswers.{Checks, Tests};
 
 // A row's test: a refusal's number, or 0 and whether the row is clean.
-#[derive(Drop)]
+#[derive(Clone, Copy)]
 pub struct TestedRow {
     pub refusal: u8,
     pub clean: bool,
@@ -42,7 +44,7 @@ fn is_clean(row: &[u8], n: usize) -> bool
 }
 
 // The check bytes as they come about stand in one register of five bytes, or in two of six and eight, high byte first.
-#[derive(Drop)]
+#[derive(Clone, Copy)]
 struct Registers {
     high: usize,
     low: usize,

@@ -1,1 +1,2 @@
 // The coding array with the check bytes of its rows: definitions in specs/, laws in proofs/.
+#![tactic(auto)]

@@ -1,4 +1,6 @@
 // Which streams the profile's number is about: the first one or the first two, in table order.
+#![tactic(auto)]
+
 ghost use Rattle.std.specs.Prelude.{◌≡◌, ◌<◌};
 ghost use Rattle.collision.specs.Collisions.{one_to, later_to, alone_to, pair_to, two_by, FindsStreams};
 ghost use Rattle.collision.specs.CollisionClauses.{one_by, both_by};
@@ -6,14 +8,14 @@ ghost use Rattle.collision.specs.CollisionClauses.{one_by, both_by};
 use places::Place;
 
 // Two streams of the table, or one twice.
-#[derive(Drop)]
+#[derive(Clone, Copy)]
 pub struct Two {
     pub first: u8,
     pub second: u8,
 }
 
 // The profile's number, and the streams that it is about, 0 and 0 unless it is 30 to 33.
-#[derive(Drop)]
+#[derive(Clone, Copy)]
 pub struct Collision {
     pub number: u8,
     pub two: Two,

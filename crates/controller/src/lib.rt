@@ -1,4 +1,6 @@
 // The reading for the transmitter's controller, on numbers and byte slices.
+#![tactic(auto)]
+
 ghost use Rattle.std.specs.Prelude.{◌≡◌, length};
 ghost use Rattle.frame.specs.Rules.{refusal_of, stream_refusal_of, fic_part, stream_part};
 ghost use Rattle.encoded.specs.AnswerBytes.{answer_of};

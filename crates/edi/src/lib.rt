@@ -1,4 +1,6 @@
 // The network frame regenerated from the tag items of an EDI packet.
+#![tactic(auto)]
+
 ghost use Rattle.std.specs.Prelude.{◌≡◌, ◌+◌, ◌*◌, ◌≤◌, length, take, drop};
 ghost use Rattle.octets.specs.Stores.{put};
 ghost use Rattle.frame.specs.Frame.{stl_total};

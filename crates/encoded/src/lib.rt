@@ -1,4 +1,6 @@
 // The answer of reading in bytes, for C: the header's values, then all 64 entries.
+#![tactic(auto)]
+
 ghost use Rattle.std.specs.Prelude.{◌++◌, ◌≡◌, ◌+◌, ◌≤◌, eqb, length};
 ghost use Rattle.octets.specs.Choice.{pick};
 ghost use Rattle.octets.specs.Stores.{put};

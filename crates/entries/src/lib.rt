@@ -1,4 +1,6 @@
 // The sum, writing and a walk's n-th item on byte slices, for programs in other languages that test and measure them.
+#![tactic(auto)]
+
 ghost use Rattle.std.specs.Prelude.{[], ◌∷◌, ◌≡◌, ◌+◌, ◌*◌, ◌<◌, length};
 ghost use Rattle.sum.specs.Sum.{sum_of};
 ghost use Rattle.octets.specs.Stores.{put};

@@ -1,1 +1,2 @@
 // Regional IP feeds: theorems about regenerating, in proofs/.
+#![tactic(auto)]

@@ -1,4 +1,6 @@
 // The field of 256 elements of clause 8.6: bytes as polynomials modulo x^8 + x^7 + x^2 + x + 1.
+#![tactic(auto)]
+
 ghost use Rattle.std.specs.Prelude.{◌≡◌};
 ghost use Rattle.field.specs.Field.{bit, scale, twice, times, power};
 ghost use Rattle.field.specs.FieldClauses.{entry_of};

@@ -1,4 +1,6 @@
 // The words of a frame, each as its fields: total, with 0 for what lies beyond the bytes lent.
+#![tactic(auto)]
+
 ghost use Rattle.std.specs.Prelude.{◌≡◌};
 ghost use Rattle.frame.specs.Frame.{stream_by, stream_of, IsSync, IsFc, IsEoh, IsEof, IsTist};
 

@@ -1,7 +1,8 @@
 // What a frame holds, as values.
+#![tactic(auto)]
 
 // A stream's entry in the table (clause 5.4.1).
-#[derive(Drop)]
+#[derive(Clone, Copy)]
 pub struct Stream {
     pub scid: u8,
     pub sad: u16,
@@ -10,13 +11,13 @@ pub struct Stream {
 }
 
 // SYNC (clause 6.2.1), FC (clause 5.3), EOH (clause 5.5), EOF (clause 5.7) and TIST (clause 5.8): a word's fields.
-#[derive(Drop)]
+#[derive(Clone, Copy)]
 pub struct Sync {
     pub err: u8,
     pub fsync: u32,
 }
 
-#[derive(Drop)]
+#[derive(Clone, Copy)]
 pub struct Fc {
     pub fct: u8,
     pub ficf: u8,
@@ -26,26 +27,26 @@ pub struct Fc {
     pub fl: u16,
 }
 
-#[derive(Drop)]
+#[derive(Clone, Copy)]
 pub struct Eoh {
     pub mnsc: u16,
     pub sum: u16,
 }
 
-#[derive(Drop)]
+#[derive(Clone, Copy)]
 pub struct Eof {
     pub sum: u16,
     pub rfu: u16,
 }
 
-#[derive(Drop)]
+#[derive(Clone, Copy)]
 pub struct Tist {
     pub rfa: u8,
     pub time: u32,
 }
 
 // The timestamp is of three sorts (annex C.2): none is given, a time in periods of 16.384 MHz, or a reserved number, kept as it is.
-#[derive(Drop)]
+#[derive(Clone, Copy)]
 pub enum Timestamp {
     Absent,
     Time(u32),
@@ -54,7 +55,7 @@ pub enum Timestamp {
 
 // The fields of an accepted frame. The sync word is FSYNC1 where fsync1 is set, else FSYNC0. The level is the one handed on;
 // sent and worked are the main-stream sum as sent and as worked out.
-#[derive(Drop)]
+#[derive(Clone, Copy)]
 pub struct Header {
     pub level: u8,
     pub fsync1: bool,
@@ -73,28 +74,28 @@ pub struct Header {
 }
 
 // What reading answers: the header, or the number of the refusal.
-#[derive(Drop)]
+#[derive(Clone, Copy)]
 pub enum Answer {
     Accepted(Header),
     Refused(u8),
 }
 
 // The answer, and the stream table beside it.
-#[derive(Drop)]
+#[derive(Clone, Copy)]
 pub struct Reading {
     pub answer: Answer,
     pub table: [Stream; 64],
 }
 
 // A part of a frame: its first byte's place, and its length.
-#[derive(Drop)]
+#[derive(Clone, Copy)]
 pub struct Span {
     pub start: usize,
     pub len: usize,
 }
 
 // The fields given to writing. Entries beyond the count have no effect. FL is worked out, and so are both sums.
-#[derive(Drop)]
+#[derive(Clone, Copy)]
 pub struct Fields {
     pub level: u8,
     pub fsync1: bool,

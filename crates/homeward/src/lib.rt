@@ -1,4 +1,6 @@
 // The way back of clause 8.4: the parts of an output array, by way of the interleaving array. No byte is judged.
+#![tactic(auto)]
+
 ghost use Rattle.std.specs.Prelude.{List, ◌≡◌, ℕ, ◌+◌, ◌-◌, ◌*◌, ◌<◌, length};
 ghost use Rattle.octets.specs.Stores.{put};
 ghost use Rattle.array.specs.Listed.{list};

@@ -1,10 +1,12 @@
 // One pass over the tag items of an EDI packet: where the value of management and of each stream lies.
+#![tactic(auto)]
+
 ghost use Rattle.std.specs.Prelude.{◌≡◌, ◌+◌, ◌≤◌, min, max, length, take, drop};
 ghost use Rattle.items.specs.TagItems.{part_of, number_by};
 ghost use Rattle.items.specs.PassNotes.{more_by, bad_by, LooksAt, Passed};
 
 // A look at an item: which part it is, whether it is bad, its value's length.
-#[derive(Drop)]
+#[derive(Clone, Copy)]
 struct Seen {
     part: usize,
     bad: bool,
@@ -13,7 +15,7 @@ struct Seen {
 
 // The whole pass, for management, streams 1 to 64 and all others: how often the item was met (none, once, 2 for several), and, of one met once, where
 // its value lies; and the highest stream number. Nothing of them is known where an item is bad.
-#[derive(Drop)]
+#[derive(Clone, Copy)]
 pub struct Notes {
     pub broken: bool,
     pub highest: usize,

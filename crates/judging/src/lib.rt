@@ -1,11 +1,13 @@
 // The judge: a frame's refusal number, by the rules in number order.
+#![tactic(auto)]
+
 ghost use Rattle.std.specs.Prelude.{◌≡◌};
 ghost use Rattle.frame.specs.Frame.{is_fsync1, streams_to, stl_total};
 ghost use Rattle.frame.specs.Rules.{first, some_stl_above, refusal_of};
 ghost use Rattle.judging.specs.JudgeClauses.{head_rules, body_rules, head_rules_of, body_rules_of};
 
 // What a run over a table's first entries finds: some STL above 684, and the sum of all STLs.
-#[derive(Drop)]
+#[derive(Clone, Copy)]
 pub struct Seen {
     pub above: bool,
     pub total: u32,

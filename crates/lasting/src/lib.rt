@@ -1,1 +1,2 @@
 // Runs over a live line: definitions in specs/, theorems in proofs/.
+#![tactic(auto)]

@@ -1,4 +1,6 @@
 // A network frame sent over a leased line.
+#![tactic(auto)]
+
 ghost use Rattle.std.specs.Prelude.{◌≡◌, [], ◌<◌};
 ghost use Rattle.frame.specs.Frame.{fl_of};
 ghost use Rattle.array.specs.CodingArray.{lent};

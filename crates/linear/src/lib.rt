@@ -1,1 +1,2 @@
 // Functions that keep exclusive or: laws about numbers alone, in proofs/.
+#![tactic(auto)]

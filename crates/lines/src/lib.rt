@@ -1,4 +1,6 @@
 // The leased lines on byte slices, for C: out, back, clean rows, the frame made again, check bytes, a row's test.
+#![tactic(auto)]
+
 ghost use Rattle.std.specs.Prelude.{[], ◌∷◌, ◌≡◌, length};
 ghost use Rattle.array.specs.CodingArray.{lent};
 ghost use Rattle.code.specs.CodeAnswers.{Checks};

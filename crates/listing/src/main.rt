@@ -1,4 +1,6 @@
 // The listing: a line for each item of the walk over the record on standard input.
+#![tactic(auto)]
+
 use libc::STDOUT_FILENO;
 use walk::{Begun, Item, State};
 

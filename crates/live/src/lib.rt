@@ -1,4 +1,6 @@
 // Walking a live line: its bytes come in pieces, for ever, and few are kept. A step goes by a window of the line, its bytes from the walk's place on.
+#![tactic(auto)]
+
 ghost use Rattle.std.specs.Prelude.{true, ◌≡◌, ◌+◌, ◌<◌};
 ghost use Rattle.walk.specs.ItemValues.{place_of};
 ghost use Rattle.live.specs.Live.{placed_at, later_item, is_done, wants, standing, telling_at, waiting_at, over_at, live_at};
@@ -8,14 +10,14 @@ use frame::Stream;
 use walk::{Item, Position, State, Step};
 
 // What a step tells: the next item, with its place in the line, or that more bytes are wanted: all before that place may be forgotten.
-#[derive(Drop)]
+#[derive(Clone, Copy)]
 pub enum Told {
     Got(Item),
     More(usize),
 }
 
 // What is told, the stream table beside it (zero unless it is a frame), and the walk. The next window begins at its place.
-#[derive(Drop)]
+#[derive(Clone, Copy)]
 pub struct LiveStep {
     pub told: Told,
     pub table: [Stream; 64],

@@ -1,4 +1,6 @@
 // The walk over a live line, on byte slices, for C.
+#![tactic(auto)]
+
 ghost use Rattle.std.specs.Prelude.{true, List, ◌≡◌, ℕ, length};
 ghost use Rattle.octets.specs.Stores.{put};
 ghost use Rattle.controller.specs.Boundary;

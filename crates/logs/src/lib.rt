@@ -1,4 +1,6 @@
 // Logs on numbers and byte slices, for C.
+#![tactic(auto)]
+
 ghost use Rattle.std.specs.Prelude.{[], ◌∷◌, ◌≡◌, ◌*◌, length};
 ghost use Rattle.octets.specs.Stores.{put};
 ghost use Rattle.nightlog.specs.Log.{entry_from, entry_refusal_of, WritesEntry};

@@ -1,4 +1,6 @@
 // How many times the walk over a record puts the acceptance test to a place.
+#![tactic(auto)]
+
 ghost use Rattle.std.specs.Prelude.{true, ◌≡◌, ℕ, ◌+◌, ◌≤◌, ◌<◌, length};
 ghost use Rattle.walk.specs.Walk.{confirmed, hunting, locked};
 ghost use Rattle.walk.specs.Records.{judged};
@@ -8,14 +10,14 @@ ghost use Rattle.looks.specs.CountClauses.{tally, Stands, Counts};
 use walk::Position;
 
 // The number of tests, or the refusal of the limit.
-#[derive(Drop)]
+#[derive(Clone, Copy)]
 pub enum Counted {
     Tests(usize),
     Refused(u8),
 }
 
 // Where the walk goes after one look or more, and how many tests these put.
-#[derive(Drop)]
+#[derive(Clone, Copy)]
 struct Tally {
     tests: usize,
     position: Position,

@@ -1,4 +1,6 @@
 // What single fields mean: functions of numbers alone.
+#![tactic(auto)]
+
 ghost use Rattle.std.specs.Prelude.{[], ◌∷◌, ◌≡◌, ◌≤◌, ◌<◌};
 ghost use Rattle.octets.specs.Words.{join};
 ghost use Rattle.sum.specs.Sum.{digit};

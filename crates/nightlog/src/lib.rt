@@ -1,10 +1,12 @@
 // The fault log of a night: records of sixteen bytes, written, judged and read.
+#![tactic(auto)]
+
 ghost use Rattle.std.specs.Prelude.{[], ◌∷◌, ◌≡◌, ◌+◌, ◌*◌, ◌<◌, ◌≤◌, length};
 ghost use Rattle.octets.specs.Stores.{put};
 ghost use Rattle.nightlog.specs.Log.{lost_code, allowed, record_of, entry_from, tail_from, good_from, bad_from, no_entry, Judges, Finds, WritesEntry};
 
 // What a record holds: the place of an item, its kind (0 frame, 1 lost, 2 idle), its code (FCT, refusal, 4), its level (FF unless a frame).
-#[derive(Drop)]
+#[derive(Clone, Copy)]
 pub struct Entry {
     pub place: usize,
     pub kind: u8,
@@ -13,14 +15,14 @@ pub struct Entry {
 }
 
 // A log's number, 0 where every record is good, and the first bad record for 29.
-#[derive(Drop)]
+#[derive(Clone, Copy)]
 pub struct Verdict {
     pub number: u8,
     pub bad: usize,
 }
 
 // A record's entry, and 0; or why it is not handed out, and zeros.
-#[derive(Drop)]
+#[derive(Clone, Copy)]
 pub struct Found {
     pub number: u8,
     pub entry: Entry,

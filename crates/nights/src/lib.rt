@@ -1,4 +1,6 @@
 // A night's items kept in a log: each item of a walk as a record of sixteen bytes.
+#![tactic(auto)]
+
 ghost use Rattle.std.specs.Prelude.{◌≡◌};
 ghost use Rattle.nightlog.specs.Log.{WritesEntry};
 ghost use Rattle.nights.specs.Nights.{entry_of};

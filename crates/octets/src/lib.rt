@@ -1,4 +1,6 @@
 // Numbers in bytes, high byte first: readers that give 0 for what lies beyond the end.
+#![tactic(auto)]
+
 ghost use Rattle.std.specs.Prelude.{◌≡◌, ◌+◌, ◌<◌, get_or};
 ghost use Rattle.octets.specs.Words.{two_at, word_at, eight_at};
 

@@ -1,4 +1,6 @@
 // The way out of clause 8.4: the output array of the lent parts, by way of the coding array and the interleaving array.
+#![tactic(auto)]
+
 ghost use Rattle.std.specs.Prelude.{List, [], ◌++◌, ◌≡◌, ℕ, ◌+◌, ◌-◌, ◌*◌, ◌<◌, ◌≤◌, length, get_or, take};
 ghost use Rattle.code.specs.Code.{check_bytes};
 ghost use Rattle.coded.specs.Coded.{coded};

@@ -1,4 +1,6 @@
 // Regenerating on byte slices, for C: the frame of a regional IP feed's packet.
+#![tactic(auto)]
+
 ghost use Rattle.std.specs.Prelude.{not, eqb};
 ghost use Rattle.edi.specs.Regenerating.{Regenerates};
 

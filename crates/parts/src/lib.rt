@@ -1,4 +1,6 @@
 // The parts of a frame's main stream: their bytes, as parts of the frame lent.
+#![tactic(auto)]
+
 ghost use Rattle.std.specs.Prelude.{◌≡◌, ◌+◌, ◌≤◌, length};
 ghost use Rattle.frame.specs.Frame.{main_span};
 ghost use Rattle.frame.specs.Rules.{main_part, fic_part, stream_part, Acceptable};

@@ -1,4 +1,6 @@
 // The period at a place of a record: judged, its sync word, and the next place that begins like a frame.
+#![tactic(auto)]
+
 ghost use Rattle.std.specs.Prelude.{true, false, ◌≡◌, ◌+◌, ◌≤◌, ◌<◌, length};
 ghost use Rattle.frame.specs.Rules.{refusal_of};
 ghost use Rattle.periods.specs.Periods.{part, fsync1_at, NoneStands};

@@ -1,10 +1,12 @@
 // Where a stream's sub-channel lies among the capacity units, and what is judged of it.
+#![tactic(auto)]
+
 ghost use Rattle.std.specs.Prelude.{◌≡◌};
 ghost use Rattle.frame.specs.Frame.{stream_of};
 ghost use Rattle.places.specs.Places.{place_of, same_scid, unsized, beyond, meets};
 
 // What is judged of a stream: its SCID, its capacity units, from SAD up to end, its STL.
-#[derive(Drop)]
+#[derive(Clone, Copy)]
 pub struct Place {
     pub scid: u32,
     pub sad: u32,

@@ -1,5 +1,7 @@
 // The final-stage profile of a frame: its number. The stream table is taken apart into tables of 64 numbers, and each loop over them does one thing, so that
 // it is done many streams at a time. Sub-channels that lie in order cannot meet; only where they do not is a map of the units made.
+#![tactic(auto)]
+
 ghost use Rattle.std.specs.Prelude.{false, List, ◌≡◌, ℕ, ◌≤◌, ◌<◌, eqb, get_or};
 ghost use Rattle.octets.specs.Choice.{pick};
 ghost use Rattle.frame.specs.Rules.{first};
@@ -8,7 +10,7 @@ ghost use Rattle.places.specs.declared.Place.{Place};
 ghost use Rattle.places.specs.Places.{places_to, some, some_pair, beyond, meets, place_rules, profile_of};
 ghost use Rattle.profile.specs.ProfileClauses.{Halved, end_by, end_at, EndsBy, laid_to, total_to, Tallied, Adds, Noted};
 
-#[derive(Drop)]
+#[derive(Clone, Copy)]
 struct Words {
     highs: [u16; 64],
     lows: [u16; 64],
@@ -16,7 +18,7 @@ struct Words {
 
 // What is noted of the streams so far: one without a size, one beyond the units, one out of order (it takes no units, or does not begin at or behind the
 // end of the one before it); and where the last one ends.
-#[derive(Drop)]
+#[derive(Clone, Copy)]
 struct Notes {
     sizeless: bool,
     beyond: bool,

@@ -1,4 +1,6 @@
 // The final-stage profile on byte slices, for C: its number, and the streams that it is about.
+#![tactic(auto)]
+
 ghost use Rattle.std.specs.Prelude.{[], ◌∷◌, ◌≡◌, length};
 ghost use Rattle.places.specs.Places.{profile_of};
 ghost use Rattle.profiles.specs.ProfileBytes.{CollisionTold};

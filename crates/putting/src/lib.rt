@@ -1,4 +1,6 @@
 // Numbers into bytes, high byte first, and bytes as they are: each is stored only where there is room for all of it.
+#![tactic(auto)]
+
 ghost use Rattle.std.specs.Prelude.{◌≡◌};
 ghost use Rattle.octets.specs.Words.{split, bytes2, bytes4, bytes8};
 ghost use Rattle.octets.specs.Stores.{put};

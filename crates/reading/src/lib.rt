@@ -1,4 +1,6 @@
 // Reading one network frame: its fields and stream table, or its refusal number.
+#![tactic(auto)]
+
 ghost use Rattle.std.specs.Prelude.{[], ◌≡◌, ◌≤◌, eqb};
 ghost use Rattle.sum.specs.Sum.{sum_of};
 ghost use Rattle.frame.specs.Frame.{streams_to, level_by, main_of};

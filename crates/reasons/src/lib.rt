@@ -1,4 +1,6 @@
 // Why a place of a record was not aired, on numbers and byte slices, for C.
+#![tactic(auto)]
+
 ghost use Rattle.std.specs.Prelude.{[], ◌∷◌, ◌≡◌, ◌<◌, length};
 ghost use Rattle.octets.specs.Stores.{put};
 ghost use Rattle.why.specs.Why.{reason_number, refusal_given, place_given};

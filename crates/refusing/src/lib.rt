@@ -1,4 +1,6 @@
 // The judge of the fields given to writing: their refusal number, by writing's rules in its order.
+#![tactic(auto)]
+
 ghost use Rattle.std.specs.Prelude.{◌||◌, [], ◌∷◌, ◌≡◌, ◌≤◌, min, ltb, take};
 ghost use Rattle.frame.specs.Frame.{sstc_widths, stl_total};
 ghost use Rattle.frame.specs.Rules.{first, some_stl_above};
@@ -37,7 +39,7 @@ fn entries(count: usize) -> usize
 }
 
 // What the rules look at in the entries that have effect: some wider than its fields, some STL above 684, the sum of all STLs.
-#[derive(Drop)]
+#[derive(Clone, Copy)]
 pub struct Seen {
     pub wider: bool,
     pub above: bool,

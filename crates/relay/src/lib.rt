@@ -1,4 +1,6 @@
 // Both round trips as running code: a frame read and written again, with the level that reading handed on, and fields written and read back.
+#![tactic(auto)]
+
 ghost use Rattle.std.specs.Prelude.{◌≡◌, length};
 ghost use Rattle.frame.specs.Rules.{refusal_of};
 ghost use Rattle.relay.specs.Back.{ReadsBack};

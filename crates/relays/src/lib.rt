@@ -1,4 +1,6 @@
 // Relaying on byte slices, for C: what each station of a transmitter network runs.
+#![tactic(auto)]
+
 ghost use Rattle.relay.specs.Relaying.{Relays};
 
 // Reading's refusal, then 1 for an output of another length; otherwise the frame is written again into the output.

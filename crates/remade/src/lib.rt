@@ -1,4 +1,6 @@
 // The network frame made again from the information bytes that came back. Sync word and level are the caller's: neither is in the information.
+#![tactic(auto)]
+
 ghost use Rattle.std.specs.Prelude.{◌++◌, ◌≡◌, ◌-◌, ◌≤◌, ◌<◌, length, take, replicate};
 ghost use Rattle.octets.specs.Words.{split, bytes4};
 ghost use Rattle.remade.specs.Remaking.{fl_within, early_refusal, MakesFrame};

@@ -1,4 +1,6 @@
 // The sum of annex D by a ring of 256 bytes: the fast one, with no table. `sum::sum` is the small one; both have one contract.
+#![tactic(auto)]
+
 ghost use Rattle.std.specs.Prelude.{◌≡◌, ℕ, ◌+◌, ◌-◌, ◌%◌, ◌≤◌, ◌<◌, min, List, length, take, drop};
 ghost use Rattle.std.specs.Int.Bits.{bit_xor};
 ghost use Rattle.linear.proofs.Linear.{xors};

@@ -1,4 +1,6 @@
 // Published check values of the sum and bench figures of reading, run.
+#![tactic(auto)]
+
 mod expected;
 mod frames;
 mod sums;

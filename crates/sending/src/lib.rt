@@ -1,4 +1,6 @@
 // The way back: a message into the byte pairs of frames, the closing sum supplied.
+#![tactic(auto)]
+
 ghost use Rattle.std.specs.Prelude.{◌∷◌, ◌≡◌, ◌+◌, ◌*◌, ◌≤◌, length, take, drop};
 ghost use Rattle.sum.specs.Sum.{sum_of};
 ghost use Rattle.octets.specs.Stores.{put};

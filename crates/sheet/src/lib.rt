@@ -1,4 +1,6 @@
 // The sheet of a log: how many items of each sort, and how many frames are missing; further logs are added to it.
+#![tactic(auto)]
+
 ghost use Rattle.std.specs.Prelude.{true, [], ◌∷◌, ◌≡◌, ℕ, ◌+◌, ◌/◌, ◌%◌, ◌<◌, length, get_or};
 ghost use Rattle.sheet.specs.Sheets.{row_by, gap, totals_added, run_added, all_at_most, run_goes_on, goes_on, Adds};
 ghost use Rattle.sheet.specs.SheetClauses.{Ready, Stopped};
@@ -6,7 +8,7 @@ ghost use Rattle.sheet.specs.SheetClauses.{Ready, Stopped};
 use nightlog::Entry;
 
 // What is kept from frame to frame: the frames missing, high times 1,000,000,000 and low; whether a frame was met, 0 or 1; the last one's FCT.
-#[derive(Drop)]
+#[derive(Clone, Copy)]
 pub struct Run {
     pub high: usize,
     pub low: usize,
@@ -15,14 +17,14 @@ pub struct Run {
 }
 
 // Totals: 0 to 3 frames at that level, 4 + n lost marks of refusal n, 15 idle items.
-#[derive(Drop)]
+#[derive(Clone, Copy)]
 pub struct Sheet {
     pub totals: [usize; 16],
     pub run: Run,
 }
 
 // A sheet with a log added to it and 0; or the refusal number, the bad record for 29, and the sheet as it was.
-#[derive(Drop)]
+#[derive(Clone, Copy)]
 pub struct Added {
     pub number: u8,
     pub bad: usize,

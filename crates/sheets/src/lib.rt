@@ -1,4 +1,6 @@
 // Sheets on byte slices, for C.
+#![tactic(auto)]
+
 ghost use Rattle.std.specs.Prelude.{[], ◌∷◌, ◌≡◌, length};
 ghost use Rattle.octets.specs.Stores.{put, bytes_of_each};
 ghost use Rattle.octets.specs.Words.{split, bytes8};

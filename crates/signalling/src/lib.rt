@@ -1,4 +1,6 @@
 // Signalling groups (clause 5.5.1) and the messages strung of them (annex A.3), frame by frame.
+#![tactic(auto)]
+
 ghost use Rattle.std.specs.Prelude.{true, ◌++◌, ◌≡◌, ◌+◌, ◌/◌, ◌≤◌, ◌<◌, length};
 ghost use Rattle.sum.specs.Sum.{sent};
 ghost use Rattle.octets.specs.Stores.{put};
@@ -9,7 +11,7 @@ ghost use Rattle.signalling.specs.Following.{Steps, Begins};
 ghost use Rattle.signalling.specs.declared.Kind.TheVariants.{Start, Continuation, End};
 
 // What a group is, by its first byte.
-#[derive(Drop)]
+#[derive(Clone, Copy)]
 pub enum Kind {
     Start,
     Continuation,
@@ -18,7 +20,7 @@ pub enum Kind {
 }
 
 // The group being gathered: the phase due, whether a phase 0 is waited for after a drop, and the MNSC of the frames so far.
-#[derive(Drop)]
+#[derive(Clone, Copy)]
 pub struct Group {
     pub due: u8,
     pub waiting: bool,
@@ -28,7 +30,7 @@ pub struct Group {
 }
 
 // The message being strung: its type, GrNb, the continuations so far, and the sum's register.
-#[derive(Drop)]
+#[derive(Clone, Copy)]
 pub struct Opened {
     pub on: bool,
     pub kind: u8,
@@ -37,14 +39,14 @@ pub struct Opened {
     pub crc: u16,
 }
 
-#[derive(Drop)]
+#[derive(Clone, Copy)]
 pub struct State {
     pub group: Group,
     pub message: Opened,
 }
 
 // Nothing, a message (type and length; its bytes are the first of the buffer lent), a drop with its number, or a call refused.
-#[derive(Drop)]
+#[derive(Clone, Copy)]
 pub enum Item {
     Nothing,
     Message(u8, usize),
@@ -52,13 +54,13 @@ pub enum Item {
     Refused(u8),
 }
 
-#[derive(Drop)]
+#[derive(Clone, Copy)]
 pub struct Taken {
     pub item: Item,
     pub message: Opened,
 }
 
-#[derive(Drop)]
+#[derive(Clone, Copy)]
 pub struct Step {
     pub item: Item,
     pub state: State,

@@ -1,4 +1,6 @@
 // Signalling for the transmitter's controller, on numbers and byte slices.
+#![tactic(auto)]
+
 ghost use Rattle.std.specs.Prelude.{◌≡◌, ◌<◌, length};
 ghost use Rattle.sum.specs.Sum.{digit};
 ghost use Rattle.octets.specs.Words.{join, Fit};

@@ -1,4 +1,6 @@
 // How many times a walk puts the acceptance test to a place, for C: the number by which a card's processor is sized.
+#![tactic(auto)]
+
 ghost use Rattle.std.specs.Prelude.{◌≡◌};
 ghost use Rattle.walk.specs.Records.{limit_refusal_of};
 ghost use Rattle.walks.specs.WalkCalls.{Limited};

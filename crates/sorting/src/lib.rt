@@ -1,4 +1,6 @@
 // The tag items of a packet, judged: rules 20, 21, 22 and 35; and where their values lie.
+#![tactic(auto)]
+
 ghost use Rattle.std.specs.Prelude.{◌≡◌, ◌≤◌};
 ghost use Rattle.frame.specs.Rules.{first};
 ghost use Rattle.items.specs.TagItems.{items_of, values_of, value_of};
@@ -9,7 +11,7 @@ ghost use Rattle.sorting.specs.SortClauses.{once_to, Sound};
 
 // The refusal's number, 0 for none; and, of a packet that is not refused, the highest stream number, and where the values of management and of the
 // streams lie.
-#[derive(Drop)]
+#[derive(Clone, Copy)]
 pub struct Sorted {
     pub number: u8,
     pub highest: usize,

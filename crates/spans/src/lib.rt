@@ -1,4 +1,6 @@
 // Where the parts of a frame's main stream lie, and the refusal numbers of requests for them.
+#![tactic(auto)]
+
 ghost use Rattle.std.specs.Prelude.{◌≡◌};
 ghost use Rattle.frame.specs.Frame.{fic_span, stream_span};
 ghost use Rattle.frame.specs.Rules.{refusal_of, stream_refusal_of, fic_part, stream_part};

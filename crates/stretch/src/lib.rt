@@ -1,4 +1,6 @@
 // The register's word after more bytes, eight to a turn and with no table: for short sums, and for the ends of long ones.
+#![tactic(auto)]
+
 ghost use Rattle.std.specs.Prelude.{◌≡◌, [], ◌∷◌, ◌+◌, ◌%◌, ◌^◌, ◌≤◌, ◌<◌, length, take, drop};
 ghost use Rattle.octets.specs.Words.{split, bytes4};
 ghost use Rattle.sum.specs.Sum.{Register, after, word, load};
@@ -65,7 +67,7 @@ fn words(start: u16, bytes: &[u8], n: usize) -> u16
 
 // The register with sixteen stages for each of its own: G(x)^16 = G(x^16), so what is fed back goes 8, 22 and 32 bytes on, and
 // a word to a turn is shifted at once. What it holds is still to be added to the next 32 bytes.
-#[derive(Drop)]
+#[derive(Clone, Copy)]
 struct Stretched {
     a: u64,
     b: u64,

@@ -1,11 +1,13 @@
 // The values of tag items as their fields: total, with 0 for what lies beyond the bytes lent.
+#![tactic(auto)]
+
 ghost use Rattle.std.specs.Prelude.{◌≡◌, ◌*◌, ◌≤◌, eqb, length};
 ghost use Rattle.tags.specs.TagValues.{IsDeti, atstf_in, rfudf_in, timestamp_in, fic_place, ficl_in, rfud_place, rfu_in, rfa_in, length_for, entry_by, fields_by};
 
 use frame::{Fields, Span, Stream, Timestamp};
 
 // The first word of a management item's value m.
-#[derive(Drop)]
+#[derive(Clone, Copy)]
 pub struct Head {
     pub atstf: u8,
     pub ficf: u8,

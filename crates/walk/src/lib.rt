@@ -1,4 +1,6 @@
 // Walking a record: the state, and a step from one item to the next.
+#![tactic(auto)]
+
 ghost use Rattle.std.specs.Prelude.{◌≡◌, List, ℕ, ◌+◌, ◌≤◌, length};
 ghost use Rattle.frame.specs.Rules.{refusal_of};
 ghost use Rattle.frame.specs.Answers.{Reads};
@@ -9,7 +11,7 @@ ghost use Rattle.walk.specs.StepClauses.{Missed, moved_with, moved_at};
 use frame::{Answer, Header, Reading, Stream};
 
 // Where the walk is. Hunting never looks at the misses.
-#[derive(Drop)]
+#[derive(Clone, Copy)]
 pub struct Position {
     pub place: usize,
     pub misses: usize,
@@ -17,21 +19,21 @@ pub struct Position {
 }
 
 // A walk: its limit of misses, which no step changes, and its position.
-#[derive(Drop)]
+#[derive(Clone, Copy)]
 pub struct State {
     pub limit: usize,
     pub position: Position,
 }
 
 // What beginning a walk hands back.
-#[derive(Drop)]
+#[derive(Clone, Copy)]
 pub enum Begun {
     Walk(State),
     Refused(u8),
 }
 
 // What a step hands out: a frame's place and header, a lost mark's place and refusal number, the place of a null transmission in lock, or done, with the place.
-#[derive(Drop)]
+#[derive(Clone, Copy)]
 pub enum Item {
     Frame(usize, Header),
     Lost(usize, u8),
@@ -40,7 +42,7 @@ pub enum Item {
 }
 
 // The item, the stream table beside it (zero unless the item is a frame), and the advanced walk.
-#[derive(Drop)]
+#[derive(Clone, Copy)]
 pub struct Step {
     pub item: Item,
     pub table: [Stream; 64],
@@ -48,7 +50,7 @@ pub struct Step {
 }
 
 // A step but for the limit.
-#[derive(Drop)]
+#[derive(Clone, Copy)]
 struct Moved {
     item: Item,
     table: [Stream; 64],

@@ -1,5 +1,7 @@
 // The walk as one thing: the record and the walk's state in it, held together.
 // `begin`, `Walk::step` and `nth_from` are walked by hand; the work is in walk's `State::step`.
+#![tactic(auto)]
+
 ghost use Rattle.std.specs.Prelude.{◌≡◌};
 ghost use Rattle.frame.specs.Answers.{PartAt};
 ghost use Rattle.walk.specs.Records.{step_at, state_after};
@@ -9,35 +11,35 @@ ghost use Rattle.walker.specs.NthClauses.{beginning, ends_at};
 use frame::Stream;
 use walk::{Begun, Item, Position, State, Step};
 
-#[derive(Drop)]
+#[derive(Clone, Copy)]
 pub struct Walk<'a> {
     pub record: &'a [u8],
     pub state: State,
 }
 
 // 0 and the walk begun; or 27 and a walk that holds no part of the record and is done at place 0.
-#[derive(Drop)]
+#[derive(Clone, Copy)]
 pub struct Started<'a> {
     pub number: u8,
     pub walk: Walk<'a>,
 }
 
 // The number and the state of a walk begun.
-#[derive(Drop)]
+#[derive(Clone, Copy)]
 struct Beginning {
     number: u8,
     state: State,
 }
 
 // 0 and what the n-th step hands back; or 27 and done, at place 0.
-#[derive(Drop)]
+#[derive(Clone, Copy)]
 pub struct Reached {
     pub number: u8,
     pub step: Step,
 }
 
 // The item, its stream table and its part of the record (zero and empty unless it is a frame), and the advanced walk.
-#[derive(Drop)]
+#[derive(Clone, Copy)]
 pub struct Advanced<'a> {
     pub item: Item,
     pub table: [Stream; 64],

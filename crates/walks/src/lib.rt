@@ -1,4 +1,6 @@
 // The walk over a record, on numbers and byte slices, for C.
+#![tactic(auto)]
+
 ghost use Rattle.controller.specs.Boundary.{Told};
 ghost use Rattle.walks.specs.WalkCalls.{walk_of, begun_bytes, state_refusal_of, Limited};
 

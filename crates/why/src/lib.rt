@@ -1,4 +1,6 @@
 // Why a place of a record was not aired.
+#![tactic(auto)]
+
 ghost use Rattle.std.specs.Prelude.{◌≡◌, ◌+◌, ◌≤◌, length};
 ghost use Rattle.walk.specs.Records.{judged};
 ghost use Rattle.why.specs.Why.{Applies, Answers};
@@ -8,7 +10,7 @@ use walk::{Begun, Item, State};
 
 // How a place fared in the walk over its record: handed out, as a frame or an idle item; lost, or hunted over and refused, with the number; stood while hunting,
 // and the place a period later does not stand, or stands with the same sync word; stepped over in lock, with the place of the item before it.
-#[derive(Drop)]
+#[derive(Clone, Copy)]
 pub enum Reason {
     HandedOut,
     Lost(u8),
@@ -19,14 +21,14 @@ pub enum Reason {
 }
 
 // The reason, or the refusal.
-#[derive(Drop)]
+#[derive(Clone, Copy)]
 pub enum Answer {
     Because(Reason),
     Not(u8),
 }
 
 // What a step of the walk says of a place: it was hunted over before the step's item, its reason, or nothing, since the walk is not past it.
-#[derive(Drop)]
+#[derive(Clone, Copy)]
 enum Found {
     Hunted,
     At(Reason),

@@ -4,7 +4,7 @@ ghost use Rattle.std.specs.Prelude.{◌≤◌};
 use frame::{Answer, Header, Timestamp};
 
 // What a frame is built from; the FL is the formula's plus `longer`, the sums are the right ones plus what is said.
-#[derive(Drop)]
+#[derive(Clone, Copy)]
 pub struct Given {
     pub sync: u32,
     pub fct: u8,

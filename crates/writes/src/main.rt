@@ -1,4 +1,6 @@
 // Bench figures of writing, run: a row for each refusal, for two at once, and for what is written.
+#![tactic(auto)]
+
 use frame::{Fields, Stream, Timestamp};
 use workbench::build::put_main;
 use workbench::line;

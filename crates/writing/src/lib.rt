@@ -1,4 +1,6 @@
 // Writing the one frame that the fields call for.
+#![tactic(auto)]
+
 ghost use Rattle.std.specs.Prelude.{[], ◌∷◌, ◌++◌, ◌≡◌, ◌+◌, ◌-◌, ◌*◌, ◌≤◌, ◌<◌, length, take, replicate};
 ghost use Rattle.octets.specs.Words.{split, join, bytes2, bytes4};
 ghost use Rattle.frame.specs.Frame.{fc_widths, sstc_widths, tist_widths};
