@@ -1,11 +1,8 @@
 -- `ring::add` meets its contract. The loop's invariant: as many bytes as were passed are added; the measure is what is left of them.
 -- Assumes nothing.
-use mathlib.Core.Path.{◌≡◌, sym, ◌∙◌}
-use Prim.Native.Nat.{◌-◌, ◌≤◌}
-use native.Mathlib.Nat.{le_antisymm}
+use mathlib.Core.Path.{sym, ◌∙◌}
 use borrow.Author.Rules.{rules}
-use lib.ListN.{length, take, drop, length-set}
-use Rattle.linear.proofs.Linear.{xors}
+use lib.ListN.{length-set}
 use Rattle.ring.proofs.Lists.{xors_nil, add-more}
 use Rattle.ring.proofs.add.Goals as goal
 

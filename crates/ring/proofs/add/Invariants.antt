@@ -1,12 +1,9 @@
 -- `ring::add` meets its contract. The loop's invariant: as many bytes as were passed are added; the measure is what is left of them.
 -- Assumes nothing.
-use mathlib.Core.Path.{◌≡◌, sym, ◌∙◌}
+use mathlib.Core.Path.{◌≡◌}
 use Prim.Native.Nat.{◌-◌, ◌≤◌}
-use native.Mathlib.Nat.{le_antisymm}
-use borrow.Author.Rules.{rules}
-use lib.ListN.{length, take, drop, length-set}
+use lib.ListN.{length, take, drop}
 use Rattle.linear.proofs.Linear.{xors}
-use Rattle.ring.proofs.Lists.{xors_nil, add-more}
 use Rattle.ring.proofs.add.Given as goal
 
 abbrev pub invariant-loop-k : goal.invariant-loop-k

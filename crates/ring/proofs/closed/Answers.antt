@@ -16,12 +16,12 @@ use Rattle.ring.proofs.closed.Goals as goal
 pub returns : goal.returns
 unfolding load bit
 returns c = λ q s.
-    let w = c.args.t1 in
+    let w = c.args.w in
     let xs = c.args.bytes.now in
     let i = c.args.i in
     let next = take 256 (drop i xs) in
     let d = length-drop i xs in
     let n : length next ≡ 256 = length-take-le 256 (drop i xs) (search rules) in
-    let e = c.add-3.ensures.1
-    ∙ ap (λ (v : List ℕ). xors v next) (c.add-2.ensures.1 ∙ ap (λ (v : List ℕ). xors v (take 64 (drop 192 w))) c.add.ensures.1) in
-    c.fed.ensures blank refl ∙ ap (λ (ys : List ℕ). word (after blank ys)) (all_owed w _ next c.well-formed.0.1.0.1 e) ∙ ap word (sym (closed (owed w) next s n))
+    let e = c.add-3.ensures.w_after
+    ∙ ap (λ (v : List ℕ). xors v next) (c.add-2.ensures.w_after ∙ ap (λ (v : List ℕ). xors v (take 64 (drop 192 w))) c.add.ensures.w_after) in
+    c.fed.ensures blank refl ∙ ap (λ (ys : List ℕ). word (after blank ys)) (all_owed w _ next (search rules) e) ∙ ap word (sym (closed (owed w) next s n))

@@ -15,5 +15,5 @@ returns c = λ s e.
     let n = length xs - 256 in
     let h : n ≤ length xs = search rules in
     let z : length xs - n ≡ 256 = search rules in
-    c.closed.ensures (after s (take n xs)) (c.rounds.ensures.1 s (begun s c.args.start c.ranges.start.fits e))
+    c.closed.ensures (after s (take n xs)) (c.rounds.ensures.same s (begun s c.args.start c.ranges.start.fits e))
     ∙ ap word (rw z at (whole s xs n h))

@@ -1,13 +1,9 @@
 -- `ring::rounds` meets its contract. The loop's invariant: the ring stands for the register after the bytes passed, which are whole rounds; the measure is what is left of them.
 -- Assumes nothing.
-use mathlib.Core.Path.{◌≡◌, refl}
+use mathlib.Core.Path.{◌≡◌}
 use Prim.Native.Nat.{◌-◌, ◌%◌, ◌≤◌}
-use native.Mathlib.Nat.{le_antisymm}
-use borrow.Author.Rules.{rules}
 use lib.ListN.{length, take}
-use lib.Seq.{take-add}
 use Rattle.sum.specs.Sum.{Register, after}
-use Rattle.sum.proofs.SumLaws.{after_append}
 use Rattle.ring.specs.Ring.{owed, Same}
 use Rattle.ring.proofs.rounds.Given as goal
 

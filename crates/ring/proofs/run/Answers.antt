@@ -1,12 +1,7 @@
 -- `ring::run` meets its contract. The loop's invariant: the ring, turned on by k, stands for the register after k bytes, and the two other places go along with k; the measure is what is left of the run.
 -- Assumes nothing.
-use mathlib.Core.Path.{◌≡◌}
-use mathlib.Core.List.{List}
-use Prim.Native.Nat.{ℕ, ◌+◌, ◌-◌, ◌≤◌}
 use native.Mathlib.Nat.{le_antisymm}
 use borrow.Author.Rules.{rules}
-use lib.ListN.{length}
-use Rattle.ring.specs.Ring.{Turn}
 use Rattle.ring.proofs.Turning.{turn_more}
 use Rattle.ring.proofs.run.Goals as goal
 
@@ -17,12 +12,12 @@ loop-k-preserved c =
       search rules,
       search rules,
       search rules,
-      c.one.ensures.0,
-      λ u t. turn_more u c.args.bytes.now c.args.i at.w _ at.k c.requires.inside (search rules) c.one.ensures.0 c.one.ensures.1 (at.invariant.5 u t),
+      c.one.ensures.w_len,
+      λ u t. turn_more u c.args.bytes.now c.args.i at.w _ at.k c.requires.inside (search rules) c.one.ensures.w_len c.one.ensures.same (at.invariant.5 u t),
     )
 
 pub returns : goal.returns
 returns c =
     let at = c.loop-k in
     let l = le_antisymm at.invariant.1 c.loop-k-test.false in
-    (at.invariant.4, λ u t. rw l at (at.invariant.5 u t))
+    record { w_len = at.invariant.4; by_index = λ u t. rw l at (at.invariant.5 u t) }

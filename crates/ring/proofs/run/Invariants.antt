@@ -3,11 +3,8 @@
 use mathlib.Core.Path.{◌≡◌}
 use mathlib.Core.List.{List}
 use Prim.Native.Nat.{ℕ, ◌+◌, ◌-◌, ◌≤◌}
-use native.Mathlib.Nat.{le_antisymm}
-use borrow.Author.Rules.{rules}
 use lib.ListN.{length}
 use Rattle.ring.specs.Ring.{Turn}
-use Rattle.ring.proofs.Turning.{turn_more}
 use Rattle.ring.proofs.run.Given as goal
 
 abbrev pub invariant-loop-k : goal.invariant-loop-k

@@ -1,8 +1,7 @@
 -- `ring::sum_between` meets its contract: the part that is there.
 -- Assumes nothing.
 use native.Mathlib.Omega.{arith}
-use borrow.Author.Rules.{rules}
-use Rattle.ring.proofs.Between.{none_between, some_between}
+use Rattle.ring.proofs.Between.{none_between}
 use Rattle.ring.proofs.sum_between.Goals as goal
 
 pub returns-then-a-end : goal.returns-then-a-end
