@@ -1,6 +1,5 @@
 use Rattle.frame.specs.Answers.{header_for}
 use Rattle.frame.specs.Frame.{level_of}
-use borrow.Author.Rules.{rules}
 use Rattle.reading.proofs.header.Goals as goal
 
 pub returns : goal.returns

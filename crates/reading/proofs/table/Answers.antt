@@ -1,10 +1,6 @@
-use mathlib.Core.Path.{◌≡◌}
-use Prim.Native.Nat.{◌≤◌, ◌-◌}
-use native.Mathlib.Nat.{le_antisymm}
 use native.Mathlib.Omega.{arith}
 use borrow.Author.Rules.{rules}
 use Rattle.frame.specs.Frame.{stream_of, streams_to}
-use Rattle.frame.specs.Answers.{table_by}
 use Rattle.frame.proofs.Streams.{streams_length, streams_more, table_more}
 use Rattle.reading.proofs.table.Goals as goal
 
