@@ -1,5 +1,4 @@
 use Rattle.signalling.proofs.Holding.{begins}
-use borrow.Author.Rules.{rules}
 use Rattle.signalling.proofs.begin.Goals as goal
 
 pub returns : goal.returns

@@ -1,5 +1,4 @@
 use Rattle.signalling.proofs.GroupTaken.{continues}
-use borrow.Author.Rules.{rules}
 use Rattle.signalling.proofs.continued.Goals as goal
 
 pub returns : goal.returns

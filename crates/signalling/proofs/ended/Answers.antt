@@ -1,5 +1,4 @@
 use Rattle.signalling.proofs.GroupTaken.{ends, ends_wrong}
-use borrow.Author.Rules.{rules}
 use Rattle.signalling.proofs.ended.Goals as goal
 
 pub returns-then-sum-p3 : goal.returns-then-sum-p3

@@ -1,5 +1,4 @@
 use Rattle.signalling.proofs.GroupTaken.{steps_out, steps_join, steps_whole}
-use borrow.Author.Rules.{rules}
 use Rattle.signalling.proofs.feed_frame.Goals as goal
 
 pub returns-then-phase-due : goal.returns-then-phase-due

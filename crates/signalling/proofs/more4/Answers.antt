@@ -1,5 +1,4 @@
 use Rattle.signalling.proofs.Register.{fed_then}
-use borrow.Author.Rules.{rules}
 use Rattle.signalling.proofs.more4.Goals as goal
 
 pub returns : goal.returns

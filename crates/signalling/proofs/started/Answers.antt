@@ -1,5 +1,4 @@
 use Rattle.signalling.proofs.GroupTaken.{starts, starts_open}
-use borrow.Author.Rules.{rules}
 use Rattle.signalling.proofs.started.Goals as goal
 
 pub returns-then-on : goal.returns-then-on

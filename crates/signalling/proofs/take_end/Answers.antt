@@ -1,6 +1,5 @@
 use Rattle.signalling.proofs.GroupTaken.{take_ended, end_early, end_unopened}
 use mathlib.Core.Path.{refl}
-use borrow.Author.Rules.{rules}
 use Rattle.signalling.proofs.take_end.Goals as goal
 
 pub returns-then-count-grnb : goal.returns-then-count-grnb

@@ -1,7 +1,6 @@
-use Rattle.signalling.specs.declared.Kind.TheVariants.{Start, Continuation, End, Other}
+use Rattle.signalling.specs.declared.Kind.TheVariants.{Other}
 use Rattle.signalling.proofs.GroupTaken.{as_kind, take-other}
 use mathlib.Core.Path.{refl, sym, ◌∙◌}
-use borrow.Author.Rules.{rules}
 use Rattle.signalling.proofs.take_group.Goals as goal
 
 pub returns-in-Other : goal.returns-in-Other

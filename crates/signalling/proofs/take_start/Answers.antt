@@ -1,5 +1,4 @@
 use Rattle.signalling.proofs.GroupTaken.{take-started}
-use borrow.Author.Rules.{rules}
 use Rattle.signalling.proofs.take_start.Goals as goal
 
 pub returns : goal.returns

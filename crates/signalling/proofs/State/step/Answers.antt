@@ -1,5 +1,4 @@
-use Rattle.signalling.proofs.Holding.{refuses, steps_on}
-use borrow.Author.Rules.{rules}
+use Rattle.signalling.proofs.Holding.{steps_on}
 use Rattle.signalling.proofs.State.step.Goals as goal
 
 pub returns : goal.returns
