@@ -81,7 +81,7 @@ fn read_full(from: &mut impl Read, buf: &mut [u8]) -> usize
 }
 
 fn main(rt: HostRuntime) -> io::Result<()> {
-    let mut input = rt.reader();
+    let mut input = rt.stdin();
     let mut bytes = [0u8; 65536];
     let n = read_full(&mut input, &mut bytes);
     if n > 61440 {
