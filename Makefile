@@ -5,6 +5,8 @@
 RECORD = samples/four.eti
 SECONDS = 600
 SEED = $(shell date +%s)
+# what rt made in their out/ is left aside
+crates = $(shell find crates crates.txt -name out -prune -o -type f -print)
 
 run:
 	@[ ! -d "$(RECORD)" ] || { echo "$(RECORD): is a directory" >&2; exit 1; }
@@ -16,7 +18,7 @@ rows:
 example: target/example/controller
 	@target/example/controller "$(RECORD)"
 
-target/example/controller: examples/controller.c include/spindlewren.h $(shell find crates crates.txt -type f)
+target/example/controller: examples/controller.c include/spindlewren.h $(crates)
 	@mkdir -p target/example
 	@$(CC) -std=c99 -O2 -Wall -Wextra -Wpedantic -Werror -Iinclude examples/controller.c "$$(tools/archive controller)" "$$(tools/archive walks)" "$$(tools/archive sizing)" "$$(tools/archive profiles)" -o $@
 
@@ -24,14 +26,14 @@ target/example/controller: examples/controller.c include/spindlewren.h $(shell f
 live-example: target/example/live
 	@target/example/live
 
-target/example/live: examples/live.c include/spindlewren.h $(shell find crates crates.txt -type f)
+target/example/live: examples/live.c include/spindlewren.h $(crates)
 	@mkdir -p target/example
 	@$(CC) -std=c99 -O2 -Wall -Wextra -Wpedantic -Werror -Iinclude examples/live.c "$$(tools/archive controller)" "$$(tools/archive walks)" "$$(tools/archive living)" -o $@
 
 command: target/command/spindlewren
 	@echo "$(CURDIR)/target/command/spindlewren"
 
-target/command/spindlewren: Makefile $(wildcard command/* include/*) tools/archives tools/library $(shell find crates crates.txt -type f)
+target/command/spindlewren: Makefile $(wildcard command/* include/*) tools/archives tools/library $(crates)
 	@mkdir -p target/command
 	@$(CC) -std=c99 -O2 -Wall -Wextra -Wpedantic -Werror -DVERSION='"$(VERSION)"' -Iinclude command/*.c "$$(tools/library)" -o $@
 

@@ -1,6 +1,5 @@
 use Rattle.encoded.proofs.EntryBytes.{parts}
-use borrow.Author.Tests.{eq-eqb, ne_eqb}
-use borrow.Author.Rules.{rules}
+use borrow.Author.Tests.{eq-eqb}
 use Rattle.encoded.proofs.put_answer.Goals as goal
 
 pub returns : goal.returns

@@ -1,5 +1,3 @@
-use native.Mathlib.Omega.{arith}
-use lib.ListN.{length-set}
 use mathlib.Core.List.{[], ◌∷◌}
 use Rattle.octets.proofs.Storing.{stores, alone, low_byte}
 use Rattle.encoded.proofs.EntryBytes.{digit_alone}

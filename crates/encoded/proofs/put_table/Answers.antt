@@ -1,11 +1,8 @@
-use Rattle.frame.specs.declared.Stream.{Stream}
-use mathlib.Core.List.{List}
-use mathlib.Core.Path.{◌≡◌, refl, ap, ◌∙◌}
-use Prim.Native.Nat.{◌+◌, ◌-◌, ◌≤◌}
+use mathlib.Core.Path.{◌≡◌, refl, ◌∙◌}
+use Prim.Native.Nat.{◌+◌}
 use native.Mathlib.Omega.{arith}
 use borrow.Author.Rules.{rules}
 use lib.ListN.{length, take}
-use lib.Seq.{take_all}
 use Rattle.octets.specs.Stores.{put}
 use Rattle.octets.proofs.Storing.{put_none}
 use Rattle.encoded.specs.AnswerBytes.{table_bytes}
@@ -22,6 +19,6 @@ loop-i-preserved c =
     let t = c.args.table in
     let i = c.loop-i.i in
     let e : length t ≡ 64 = (search rules) in
-    let stored : c.put_stream.new.0 ≡ put l 22 (table_bytes (take (i + 1) t)) =
+    let stored : c.put_stream.new.out ≡ put l 22 (table_bytes (take (i + 1) t)) =
     c.put_stream.ensures ∙ rw c.loop-i.invariant.2 (table_more l t i (search rules) e (omega arith)) in
     (search rules, search rules, stored)

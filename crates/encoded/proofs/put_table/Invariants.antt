@@ -1,15 +1,8 @@
-use Rattle.frame.specs.declared.Stream.{Stream}
-use mathlib.Core.List.{List}
-use mathlib.Core.Path.{◌≡◌, refl, ap, ◌∙◌}
-use Prim.Native.Nat.{◌+◌, ◌-◌, ◌≤◌}
-use native.Mathlib.Omega.{arith}
-use borrow.Author.Rules.{rules}
+use mathlib.Core.Path.{◌≡◌}
+use Prim.Native.Nat.{◌-◌, ◌≤◌}
 use lib.ListN.{length, take}
-use lib.Seq.{take_all}
 use Rattle.octets.specs.Stores.{put}
-use Rattle.octets.proofs.Storing.{put_none}
 use Rattle.encoded.specs.AnswerBytes.{table_bytes}
-use Rattle.encoded.proofs.EntryBytes.{table_more}
 use Rattle.encoded.proofs.put_table.Given as goal
 
 abbrev pub invariant-loop-i : goal.invariant-loop-i

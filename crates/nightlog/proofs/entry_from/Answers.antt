@@ -1,5 +1,4 @@
 use Rattle.nightlog.specs.Log.{entry_from}
-use borrow.Author.Rules.{rules}
 use Rattle.nightlog.proofs.entry_from.Goals as goal
 
 pub returns : goal.returns

@@ -1,5 +1,4 @@
 use Rattle.nightlog.proofs.Recorded.{filled}
-use borrow.Author.Rules.{rules}
 use Rattle.nightlog.proofs.fill.Goals as goal
 
 pub returns : goal.returns

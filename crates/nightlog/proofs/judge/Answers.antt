@@ -1,5 +1,4 @@
 use Rattle.nightlog.proofs.Judged.{odd, bad, good}
-use borrow.Author.Rules.{rules}
 use Rattle.nightlog.proofs.judge.Goals as goal
 
 pub returns-then-len-ne0 : goal.returns-then-len-ne0

@@ -1,7 +1,5 @@
 use Rattle.octets.proofs.Storing.{stores}
-use lib.ListN.{length-set}
 use mathlib.Core.List.{[], ◌∷◌}
-use native.Mathlib.Omega.{arith}
 use borrow.Author.Rules.{rules}
 use Rattle.nightlog.proofs.put_rest.Goals as goal
 
