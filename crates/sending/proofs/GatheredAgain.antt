@@ -99,6 +99,7 @@ lost_now k g (h ∷ hs) q fs = go q.behind
 gathered : {g : List ℕ} {gs : List (List ℕ)} (hs : List (List ℕ)) → Padded (g ∷ gs) hs → Eights hs → (w : Bool) (fs : List Frame)
     → run gather (at_start w) (frames_of hs ++ fs) ≡ map group hs ++ run gather (sofar []) fs
 gathered (h ∷ hs) p q w fs = back_groups w h hs q fs
+gathered {g = g} {gs = gs} [] p q w fs = elim p [ ]
 
 -- ---- groups and messages
 -- other groups are passed over, wherever they stand

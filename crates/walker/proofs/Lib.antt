@@ -1,5 +1,5 @@
 pub mod Beginnings
-pub mod Held
 pub mod Items
 pub mod Periods
+pub mod Turns
 pub mod WholeFrames

@@ -1,5 +1,5 @@
 // The walk as one thing: the record and the walk's state in it, held together.
-// `begin`, `Walk::step` and `nth_from` are walked by hand; the work is in walk's `State::step`.
+// The work is in walk's `State::step`.
 #![tactic(auto)]
 
 ghost use Rattle.std.specs.Prelude.{◌≡◌};
@@ -127,9 +127,10 @@ impl<'a> Walk<'a> {
     {
         let s = self.state.step(self.record);
         let frame = frame_of(self.record, s.item);
+        let table = s.table;
         Advanced {
             item: s.item,
-            table: s.table,
+            table,
             frame,
             walk: Walk {
                 record: self.record,

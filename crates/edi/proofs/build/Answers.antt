@@ -28,4 +28,4 @@ returns c =
     let m = c.value-m.ensures ∙ management_at _ _ _ _ c.requires.kept in
     let t = c.table-table.ensures in
     let x = c.fields-x.ensures ∙ fields_as _ _ _ _ _ m c.requires.kept.high t in
-    subst (λ (u : Fields). Writes u (main_for (items_of c.args.packet.now)) c.args.out.now c.assemble.new.m.1.1.1.1.1.1.0 c.assemble.result) x c.assemble.ensures
+    subst (λ (u : Fields). Writes u (main_for (items_of c.args.packet.now)) c.args.out.now c.assemble.new.out c.assemble.result) x c.assemble.ensures

@@ -4,7 +4,6 @@ use native.Mathlib.Omega.{arith}
 use lib.ListN.{drop, length-drop}
 use lib.Seq.{length-take-le}
 use Rattle.tags.specs.TagValues.{entry_by, entry_in}
-use borrow.Author.Rules.{rules}
 use Rattle.edi.proofs.entry.Goals as goal
 
 pub returns : goal.returns

@@ -1,7 +1,6 @@
 use native.Mathlib.Omega.{arith}
 use Rattle.tags.specs.TagValues.{ficf_in, mid_in}
 use Rattle.tags.proofs.TagLaws.{ficl_small}
-use borrow.Author.Rules.{rules}
 use Rattle.edi.proofs.main_length.Goals as goal
 
 pub overflow_add-result : goal.overflow_add-result

@@ -1,13 +1,8 @@
 use mathlib.Core.Path.{ap, ◌∙◌}
-use Prim.Native.Nat.{ℕ, ◌-◌}
-use native.Mathlib.Nat.{le_antisymm}
 use native.Mathlib.Omega.{arith}
 use borrow.Author.Rules.{rules}
 use lib.ListN.{drop}
-use Rattle.octets.specs.Stores.{put}
-use Rattle.items.specs.TagItems.{items_of}
-use Rattle.edi.specs.Regenerating.{data_to}
-use Rattle.edi.proofs.StreamsKept.{kept_count, stream_at, Filling, filling_none, filling_place, filling_more}
+use Rattle.edi.proofs.StreamsKept.{kept_count, stream_at, filling_none, filling_place, filling_more}
 use Rattle.edi.proofs.put_data.Goals as goal
 
 pub loop-i-init : goal.loop-i-init

@@ -1,5 +1,4 @@
 use Rattle.edi.proofs.RegeneratingRules.{fic_as, ficl_at, data_room, main_put}
-use borrow.Author.Rules.{rules}
 use Rattle.edi.proofs.put_main.Goals as goal
 
 pub put_data-requires : goal.put_data-requires

@@ -3,7 +3,6 @@ use native.Mathlib.Omega.{arith}
 use Rattle.items.specs.TagItems.{items_of}
 use Rattle.sorting.proofs.OnceMet.{highest_small}
 use Rattle.edi.proofs.RegeneratingRules.{sorted_kept, regenerates_refused, regenerates_over, regenerates_written, long_fields}
-use borrow.Author.Rules.{rules}
 use Rattle.edi.proofs.regenerate.Goals as goal
 
 pub returns-then-number-ne0 : goal.returns-then-number-ne0

@@ -1,9 +1,7 @@
-use native.Mathlib.Nat.{le_antisymm}
 use Rattle.edi.proofs.StreamsKept.{long_more}
 use borrow.Author.Rules.{rules}
 use Rattle.edi.specs.EdiClauses.{long_to}
-use mathlib.Core.Path.{◌≡◌, refl}
-use Prim.Native.Nat.{◌-◌, ◌≤◌}
+use mathlib.Core.Path.{refl}
 use Rattle.edi.proofs.some_long.Goals as goal
 
 pub loop-i-init : goal.loop-i-init

@@ -1,8 +1,5 @@
-use native.Mathlib.Nat.{le_antisymm}
-use Rattle.edi.proofs.StreamsKept.{long_more}
-use borrow.Author.Rules.{rules}
 use Rattle.edi.specs.EdiClauses.{long_to}
-use mathlib.Core.Path.{◌≡◌, refl}
+use mathlib.Core.Path.{◌≡◌}
 use Prim.Native.Nat.{◌-◌, ◌≤◌}
 use Rattle.edi.proofs.some_long.Given as goal
 

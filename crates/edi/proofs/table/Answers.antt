@@ -1,9 +1,7 @@
-use mathlib.Core.Path.{◌≡◌, ap, ◌∙◌}
-use Prim.Native.Nat.{◌+◌, ◌-◌, ◌≤◌}
-use native.Mathlib.Nat.{le_antisymm}
+use mathlib.Core.Path.{ap, ◌∙◌}
+use Prim.Native.Nat.{◌+◌}
 use native.Mathlib.Omega.{arith}
 use borrow.Author.Rules.{rules}
-use Rattle.frame.specs.Answers.{table_by}
 use Rattle.frame.proofs.Streams.{table_more}
 use Rattle.items.specs.TagItems.{items_of, value_of}
 use Rattle.tags.specs.TagValues.{entry_in}

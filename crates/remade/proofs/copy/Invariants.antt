@@ -1,11 +1,8 @@
 -- `remade::copy` meets its contract.
 -- Assumes nothing.
-use mathlib.Core.Path.{◌≡◌, refl, sym, ◌∙◌}
 use Prim.Native.Nat.{◌-◌}
-use native.Mathlib.Omega.{arith}
-use borrow.Author.Rules.{rules}
 use lib.ListN.{length, get_or}
-use Rattle.array.proofs.Filling.{Filled, filled_none, filled_more, filled_all, list_all}
+use Rattle.array.proofs.Filling.{Filled}
 use Rattle.remade.proofs.copy.Given as goal
 
 abbrev pub invariant-loop-k : goal.invariant-loop-k

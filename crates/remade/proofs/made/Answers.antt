@@ -2,10 +2,10 @@
 -- Assumes nothing.
 use mathlib.Core.Path.{◌≡◌, refl, ap, ◌∙◌}
 use mathlib.Core.List.{List}
-use Prim.Native.Nat.{ℕ, ◌+◌, ◌-◌, ◌≤◌}
+use Prim.Native.Nat.{ℕ, ◌+◌}
 use native.Mathlib.Omega.{arith}
 use borrow.Author.Rules.{rules}
-use lib.ListN.{length, take, set, get_or}
+use lib.ListN.{take, set, get_or}
 use Rattle.octets.specs.Stores.{put}
 use Rattle.octets.proofs.Storing.{put_none}
 use Rattle.remade.proofs.Remade.{start_length, turn, made_all}

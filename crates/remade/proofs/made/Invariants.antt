@@ -1,14 +1,9 @@
 -- `remade::made` meets its contract.
 -- Assumes nothing.
-use mathlib.Core.Path.{◌≡◌, refl, ap, ◌∙◌}
-use mathlib.Core.List.{List}
-use Prim.Native.Nat.{ℕ, ◌+◌, ◌-◌, ◌≤◌}
-use native.Mathlib.Omega.{arith}
-use borrow.Author.Rules.{rules}
-use lib.ListN.{length, take, set, get_or}
+use mathlib.Core.Path.{◌≡◌}
+use Prim.Native.Nat.{◌-◌, ◌≤◌}
+use lib.ListN.{length, take}
 use Rattle.octets.specs.Stores.{put}
-use Rattle.octets.proofs.Storing.{put_none}
-use Rattle.remade.proofs.Remade.{start_length, turn, made_all}
 use Rattle.remade.proofs.made.Given as goal
 
 abbrev pub invariant-loop-k : goal.invariant-loop-k

@@ -1,7 +1,4 @@
-use borrow.Author.Tests.{not-true, not-false}
-use mathlib.Core.Path.{refl, sym, ◌∙◌}
 use Rattle.sheet.proofs.Summing.{adds_odd}
-use borrow.Author.Rules.{rules}
 use Rattle.sheet.proofs.add.Goals as goal
 
 pub returns-then-len-ne0 : goal.returns-then-len-ne0

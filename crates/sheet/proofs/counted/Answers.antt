@@ -1,4 +1,3 @@
-use native.Mathlib.Omega.{arith}
 use Rattle.sheet.proofs.Totals.{total_more, total_kept}
 use borrow.Author.Rules.{rules}
 use Rattle.sheet.proofs.counted.Goals as goal

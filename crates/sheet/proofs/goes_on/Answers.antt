@@ -1,7 +1,5 @@
-use borrow.Author.Tests.{not-true, not-false}
 use mathlib.Core.Path.{sym, ◌∙◌}
 use Rattle.sheet.proofs.Summing.{goes_not, goes_by}
-use borrow.Author.Rules.{rules}
 use Rattle.sheet.proofs.goes_on.Goals as goal
 
 pub returns-then-not-room : goal.returns-then-not-room

@@ -1,11 +1,7 @@
 use Rattle.sheet.specs.Sheets.{all_at_most}
-use native.Mathlib.Nat.{le_antisymm}
-use native.Mathlib.Omega.{arith}
 use Prim.Native.Nat.{◌≤◌, ◌-◌}
 use lib.ListN.{length, drop}
-use mathlib.Core.Path.{◌≡◌, refl, sym, ◌∙◌}
-use Rattle.sheet.proofs.Totals.{room_out, room_more, room_end}
-use borrow.Author.Rules.{rules}
+use mathlib.Core.Path.{◌≡◌}
 use Rattle.sheet.proofs.room.Given as goal
 
 abbrev pub invariant-loop-i : goal.invariant-loop-i

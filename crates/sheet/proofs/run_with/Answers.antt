@@ -1,5 +1,4 @@
 use Rattle.sheet.proofs.Gaps.{run_skipped, run_begun, run_followed}
-use borrow.Author.Rules.{rules}
 use Rattle.sheet.proofs.run_with.Goals as goal
 
 pub returns-then-entry-ne0 : goal.returns-then-entry-ne0

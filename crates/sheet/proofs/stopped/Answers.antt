@@ -1,5 +1,4 @@
 use Rattle.sheet.proofs.Summing.{adds_judged, adds_stopped}
-use borrow.Author.Rules.{rules}
 use Rattle.sheet.proofs.stopped.Goals as goal
 
 pub returns-then-number-ne0 : goal.returns-then-number-ne0

@@ -1,11 +1,8 @@
-use Rattle.nightlog.specs.Log.{entries_to, bad_from}
 use Rattle.nightlog.proofs.Judged.{bad_begin, bad_stop, bad_more, bad_end, found_good, found_bad}
-use Rattle.sheet.specs.Sheets.{totals_added, run_added}
 use Rattle.sheet.proofs.Summing.{pass_begins, totals_room, run_room_at, totals_turn, run_turn, pass_stops, pass_ends}
 use native.Mathlib.Nat.{le_antisymm}
 use native.Mathlib.Omega.{arith}
-use Prim.Native.Nat.{◌≤◌, ◌-◌}
-use mathlib.Core.Path.{◌≡◌, ◌∙◌}
+use mathlib.Core.Path.{◌∙◌}
 use borrow.Author.Rules.{rules}
 use Rattle.sheet.proofs.summed.Goals as goal
 

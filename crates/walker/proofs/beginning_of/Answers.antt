@@ -1,5 +1,4 @@
 use Rattle.walker.proofs.Beginnings.{begun_state, begun_outside}
-use borrow.Author.Rules.{rules}
 use Rattle.walker.proofs.beginning_of.Goals as goal
 
 pub returns-in-Walk : goal.returns-in-Walk

@@ -1,7 +1,6 @@
 -- `walker::frame_of` meets its contract, item by item.
 -- Assumes nothing.
 use mathlib.Core.Path.{refl}
-use borrow.Author.Rules.{rules}
 use Rattle.walker.specs.Advance.{frame_part}
 use Rattle.walker.proofs.frame_of.Goals as goal
 

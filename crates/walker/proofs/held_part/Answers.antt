@@ -2,7 +2,6 @@
 -- Assumes nothing.
 use mathlib.Core.Path.{refl}
 use Rattle.walker.proofs.Beginnings.{held_whole, held_none, whole_part}
-use borrow.Author.Rules.{rules}
 use Rattle.walker.proofs.held_part.Goals as goal
 
 pub returns-then-limit_refusal-ne0 : goal.returns-then-limit_refusal-ne0

@@ -2,7 +2,6 @@
 -- Assumes nothing.
 use mathlib.Core.Path.{refl}
 use native.Mathlib.Omega.{arith}
-use borrow.Author.Rules.{rules}
 use Rattle.periods.proofs.Passing.{part_is}
 use Rattle.walker.proofs.Periods.{period_within, period_beyond, short}
 use Rattle.walker.proofs.part_at.Goals as goal

@@ -1,0 +1,13 @@
+use mathlib.Core.Path.{◌≡◌, refl, sym}
+use Prim.Native.Nat.{suc, ◌-◌, ◌≤◌, ◌<◌}
+use native.Mathlib.Omega.{arith}
+use lib.ListN.{length}
+use Rattle.looks.proofs.Bounds.{no_tests}
+use Rattle.looks.proofs.Tallies.{Sofar, begins, ends, adds, few_put}
+use Rattle.looks.proofs.tests.Given as goal
+
+abbrev pub invariant-loop-position : goal.invariant-loop-position
+invariant-loop-position l = (l.n ≡ length l.bytes) × (6144 ≤ l.n) × (0 < l.limit) × Sofar l.limit l.bytes l.position l.seen
+
+abbrev pub decreases-loop-position : goal.decreases-loop-position
+decreases-loop-position l = suc l.n - l.position.place
