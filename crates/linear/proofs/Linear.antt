@@ -92,6 +92,8 @@ apart {f} p x xs = rw xor_zero_r at (p.law (x ∷ []) (0 ∷ xs))
 
 pub agree : {f g : List ℕ → ℕ} → Linear xors f → Linear xors g → (ws : List ℕ) → powers f ws ≡ powers g ws → (xs : List ℕ) → Fits ws xs → f xs ≡ g xs
 agree {f} {g} p q [] e [] none = p.law [] [] ∙ xor_self (f []) ∙ sym (q.law [] [] ∙ xor_self (g []))
+agree p q [] e (x ∷ xs) h = elim h [ ]
+agree p q (w ∷ ws) e [] h = elim h [ ]
 agree {f} {g} p q (w ∷ ws) e (x ∷ xs) (more h l) =
     apart p x xs
     ∙ ap₂ bit_xor (agree_below (alone p) (alone q) w (same (λ k. f (2 ^ k ∷ [])) (λ k. g (2 ^ k ∷ [])) w (cc)) x h) (agree (others p) (others q) ws (cc) xs l)

@@ -24,6 +24,8 @@ split_fit (k ∷ ks) w = (mod-lt (w / 2 ^ total ks) (pow_pos k), split_fit ks w)
 
 pub join_lt : (ks vs : List ℕ) → Fit ks vs → join ks vs < 2 ^ total ks
 join_lt [] [] fit = lit< tt
+join_lt [] (v ∷ vs) fit = elim fit [ ]
+join_lt (k ∷ ks) [] fit = elim fit [ ]
 join_lt (k ∷ ks) (v ∷ vs) fit =
     let T = 2 ^ total ks in
     rw (pow-add 2 k (total ks))
@@ -41,6 +43,8 @@ split_low (k ∷ ks) v w =
 
 pub split_join : (ks vs : List ℕ) → Fit ks vs → split ks (join ks vs) ≡ vs
 split_join [] [] fit = refl
+split_join [] (v ∷ vs) fit = elim fit [ ]
+split_join (k ∷ ks) [] fit = elim fit [ ]
 split_join (k ∷ ks) (v ∷ vs) fit =
     let l = join_lt ks vs fit.1 in
     ap₂ ◌∷◌

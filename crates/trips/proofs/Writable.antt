@@ -30,6 +30,8 @@ fit (k ∷ ks) (v ∷ vs) l e =
 unwider : (ks vs : List ℕ) → Fit ks vs → some_wider ks vs ≡ false
 unwider [] [] h = refl
 unwider (k ∷ ks) (v ∷ vs) h = rw (lt-leb (2 ^ k) v h.0) (unwider ks vs h.1)
+unwider [] (v ∷ vs) h = elim h [ ]
+unwider (k ∷ ks) [] h = elim h [ ]
 
 all_fit : (ss : List Stream) → some_stream_wider ss ≡ false → AllFit ss
 unfolding some_stream_wider

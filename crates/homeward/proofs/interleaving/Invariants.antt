@@ -1,0 +1,18 @@
+-- `homeward::interleaving` meets its contract.
+-- Assumes nothing.
+use mathlib.Core.Path.{refl, sym}
+use Prim.Native.Nat.{◌+◌, ◌-◌, ◌*◌}
+use native.Mathlib.Omega.{arith}
+use borrow.Author.Rules.{rules}
+use lib.ListN.{get_or}
+use Rattle.array.specs.OutputArray.{sent}
+use Rattle.array.proofs.Filling.{Filled, filled_none, filled_all}
+use Rattle.homeward.specs.BackClauses.{interleaving_of}
+use Rattle.homeward.proofs.Unplacing.{run_reaches, run_filled, line_at}
+use Rattle.homeward.proofs.interleaving.Given as goal
+
+abbrev pub invariant-loop-line : goal.invariant-loop-line
+invariant-loop-line l = Filled (λ p. get_or l.output (sent p) 0) 0 5760 l.array (15 * l.line)
+
+abbrev pub decreases-loop-line : goal.decreases-loop-line
+decreases-loop-line l = 384 - l.line

@@ -1,0 +1,15 @@
+-- `homeward::put_blocks` meets its contract.
+-- Assumes nothing.
+use Prim.Native.Nat.{◌-◌, ◌*◌}
+use native.Mathlib.Omega.{arith}
+use borrow.Author.Rules.{rules}
+use Rattle.array.proofs.Filling.{Filled, filled_none, filled_all}
+use Rattle.homeward.specs.BackClauses.{block_of}
+use Rattle.homeward.proofs.Unplacing.{run_reaches, run_filled, block_at}
+use Rattle.homeward.proofs.put_blocks.Given as goal
+
+abbrev pub invariant-loop-s : goal.invariant-loop-s
+invariant-loop-s l = Filled (block_of l.first l.array) 0 24 l.out (8 * l.s)
+
+abbrev pub decreases-loop-s : goal.decreases-loop-s
+decreases-loop-s l = 3 - l.s

@@ -1,0 +1,22 @@
+-- `outward::coding_array` meets its contract.
+-- Assumes nothing.
+use mathlib.Core.List.{[]}
+use mathlib.Core.Path.{refl, ◌∙◌}
+use Prim.Native.Nat.{◌-◌}
+use borrow.Author.Rules.{rules}
+use Rattle.array.specs.CodingArray.{coding_row, coding_array}
+use Rattle.outward.specs.OutClauses.{in_array}
+use Rattle.array.proofs.Filling.{Filled, filled_none, filled_more, filled_all}
+use Rattle.outward.proofs.Placing.{row_same, held_any}
+use Rattle.outward.proofs.coding_array.Goals as goal
+
+pub loop-i-preserved : goal.loop-i-preserved
+loop-i-preserved c =
+    let a = c.args in
+    let i = c.loop-i.i in
+    filled_more _ [] 24 _ i _ c.loop-i.invariant (search rules)
+    (c.coding_row.ensures ∙ row_same a.w a.information.now _ a.management.now a.supervision.now a.check.now i c.filled-all.ensures)
+
+pub returns : goal.returns
+unfolding coding_array
+returns c = filled_all _ [] 24 _ c.loop-i.i c.loop-i.invariant (search rules)

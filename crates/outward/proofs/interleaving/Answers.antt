@@ -1,0 +1,13 @@
+-- `outward::interleaving` meets its contract.
+-- Assumes nothing.
+use mathlib.Core.Path.{◌≡◌, refl, sym}
+use Prim.Native.Nat.{◌+◌, ◌-◌, ◌*◌}
+use native.Mathlib.Omega.{arith}
+use borrow.Author.Rules.{rules}
+use Rattle.array.proofs.Filling.{Filled, filled_none, filled_all}
+use Rattle.outward.specs.OutClauses.{interleaved_at, interleaving_by}
+use Rattle.outward.proofs.interleaving.Goals as goal
+
+pub returns : goal.returns
+unfolding interleaving_by
+returns c = filled_all _ 0 _ _ (8 * c.loop-u.u) c.loop-u.invariant (search rules)

@@ -1,0 +1,17 @@
+-- `outward::put_column` meets its contract.
+-- Assumes nothing.
+use mathlib.Core.Path.{◌≡◌}
+use Prim.Native.Nat.{◌+◌, ◌-◌, ◌*◌, ◌≤◌}
+use native.Mathlib.Nat.{le_antisymm}
+use native.Mathlib.Omega.{arith}
+use borrow.Author.Rules.{rules}
+use Rattle.array.proofs.Filling.{Filled, filled_more}
+use Rattle.outward.specs.OutClauses.{interleaved_at}
+use Rattle.outward.proofs.Placing.{column_at_lem}
+use Rattle.outward.proofs.put_column.Given as goal
+
+abbrev pub invariant-loop-k : goal.invariant-loop-k
+invariant-loop-k l = (l.k ≤ 8) × (Filled (interleaved_at l.array) 0 5760 l.out (8 * l.u + l.k))
+
+abbrev pub decreases-loop-k : goal.decreases-loop-k
+decreases-loop-k l = 8 - l.k
