@@ -13,7 +13,6 @@ use Rattle.frame.specs.declared.Header.{Header}
 use Rattle.octets.specs.Choice.{pick}
 use Rattle.frame.specs.Rules.{refusal_of, Acceptable, NullTransmission}
 use Rattle.frame.proofs.Accepting.{accepted, acceptable, null_transmission, refused_null}
-use Rattle.frame.specs.Answers.{header_for}
 use Rattle.walk.specs.Walk.{Judged, Fair, Position, Item, Frame, Lost, Idle, Done, Stepped, frame_at, item_at, items, rest, step_of, calls, locked, begin}
 use Rattle.walk.specs.ItemValues.{place_of}
 use Rattle.walk.specs.AnyJudging.{Ends, since, frames, periods, Unbroken}

@@ -1,10 +1,8 @@
 -- `homeward::array_row` meets its contract.
 -- Assumes nothing.
 use mathlib.Core.Path.{refl, ◌∙◌}
-use borrow.Author.Rules.{rules}
-use native.Mathlib.Omega.{arith}
 use Rattle.homeward.specs.BackClauses.{cell}
-use Rattle.homeward.proofs.Unplacing.{reach, each_is, row_at}
+use Rattle.homeward.proofs.Unplacing.{each_is, row_at}
 use Rattle.homeward.proofs.array_row.Goals as goal
 
 pub returns : goal.returns

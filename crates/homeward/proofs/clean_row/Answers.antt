@@ -1,7 +1,6 @@
 -- `homeward::clean_row` meets its contract.
 -- Assumes nothing.
 use mathlib.Core.Path.{sym, ap, ◌∙◌}
-use borrow.Author.Rules.{rules}
 use Rattle.homeward.specs.RowsClean.{digit}
 use Rattle.homeward.proofs.RowsTold.{told}
 use Rattle.homeward.proofs.clean_row.Goals as goal

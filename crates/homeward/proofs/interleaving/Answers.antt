@@ -1,14 +1,11 @@
 -- `homeward::interleaving` meets its contract.
 -- Assumes nothing.
-use mathlib.Core.Path.{refl, sym}
-use Prim.Native.Nat.{◌+◌, ◌-◌, ◌*◌}
+use Prim.Native.Nat.{◌+◌, ◌*◌}
 use native.Mathlib.Omega.{arith}
 use borrow.Author.Rules.{rules}
-use lib.ListN.{get_or}
-use Rattle.array.specs.OutputArray.{sent}
-use Rattle.array.proofs.Filling.{Filled, filled_none, filled_all}
+use Rattle.array.proofs.Filling.{filled_all}
 use Rattle.homeward.specs.BackClauses.{interleaving_of}
-use Rattle.homeward.proofs.Unplacing.{run_reaches, run_filled, line_at}
+use Rattle.homeward.proofs.Unplacing.{run_filled, line_at}
 use Rattle.homeward.proofs.interleaving.Goals as goal
 
 pub loop-line-preserved : goal.loop-line-preserved

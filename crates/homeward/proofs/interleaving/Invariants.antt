@@ -1,14 +1,9 @@
 -- `homeward::interleaving` meets its contract.
 -- Assumes nothing.
-use mathlib.Core.Path.{refl, sym}
-use Prim.Native.Nat.{◌+◌, ◌-◌, ◌*◌}
-use native.Mathlib.Omega.{arith}
-use borrow.Author.Rules.{rules}
+use Prim.Native.Nat.{◌-◌, ◌*◌}
 use lib.ListN.{get_or}
 use Rattle.array.specs.OutputArray.{sent}
-use Rattle.array.proofs.Filling.{Filled, filled_none, filled_all}
-use Rattle.homeward.specs.BackClauses.{interleaving_of}
-use Rattle.homeward.proofs.Unplacing.{run_reaches, run_filled, line_at}
+use Rattle.array.proofs.Filling.{Filled}
 use Rattle.homeward.proofs.interleaving.Given as goal
 
 abbrev pub invariant-loop-line : goal.invariant-loop-line

@@ -1,11 +1,10 @@
 -- `homeward::put_blocks` meets its contract.
 -- Assumes nothing.
-use Prim.Native.Nat.{◌-◌, ◌*◌}
+use Prim.Native.Nat.{◌*◌}
 use native.Mathlib.Omega.{arith}
 use borrow.Author.Rules.{rules}
-use Rattle.array.proofs.Filling.{Filled, filled_none, filled_all}
-use Rattle.homeward.specs.BackClauses.{block_of}
-use Rattle.homeward.proofs.Unplacing.{run_reaches, run_filled, block_at}
+use Rattle.array.proofs.Filling.{filled_all}
+use Rattle.homeward.proofs.Unplacing.{run_filled, block_at}
 use Rattle.homeward.proofs.put_blocks.Goals as goal
 
 pub loop-s-preserved : goal.loop-s-preserved

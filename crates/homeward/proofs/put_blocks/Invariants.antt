@@ -1,11 +1,8 @@
 -- `homeward::put_blocks` meets its contract.
 -- Assumes nothing.
 use Prim.Native.Nat.{◌-◌, ◌*◌}
-use native.Mathlib.Omega.{arith}
-use borrow.Author.Rules.{rules}
-use Rattle.array.proofs.Filling.{Filled, filled_none, filled_all}
+use Rattle.array.proofs.Filling.{Filled}
 use Rattle.homeward.specs.BackClauses.{block_of}
-use Rattle.homeward.proofs.Unplacing.{run_reaches, run_filled, block_at}
 use Rattle.homeward.proofs.put_blocks.Given as goal
 
 abbrev pub invariant-loop-s : goal.invariant-loop-s

@@ -1,12 +1,11 @@
 -- `homeward::put_check` meets its contract.
 -- Assumes nothing.
 use Prim.Native.Nat.{ℕ, ◌+◌, ◌-◌, ◌*◌, ◌≤◌}
-use native.Mathlib.Nat.{zero-mul, mul-le-mul_right}
+use native.Mathlib.Nat.{mul-le-mul_right}
 use native.Mathlib.Omega.{arith}
 use borrow.Author.Rules.{rules}
-use Rattle.array.proofs.Filling.{Filled, filled_all}
-use Rattle.homeward.specs.BackClauses.{check_byte_of}
-use Rattle.homeward.proofs.Unplacing.{begun, reach, run_filled, check_at}
+use Rattle.array.proofs.Filling.{filled_all}
+use Rattle.homeward.proofs.Unplacing.{run_filled, check_at}
 use Rattle.homeward.proofs.put_check.Goals as goal
 
 -- the bytes of one row more

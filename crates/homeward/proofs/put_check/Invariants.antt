@@ -1,12 +1,8 @@
 -- `homeward::put_check` meets its contract.
 -- Assumes nothing.
-use Prim.Native.Nat.{ℕ, ◌+◌, ◌-◌, ◌*◌, ◌≤◌}
-use native.Mathlib.Nat.{zero-mul, mul-le-mul_right}
-use native.Mathlib.Omega.{arith}
-use borrow.Author.Rules.{rules}
-use Rattle.array.proofs.Filling.{Filled, filled_all}
+use Prim.Native.Nat.{◌-◌, ◌*◌}
+use Rattle.array.proofs.Filling.{Filled}
 use Rattle.homeward.specs.BackClauses.{check_byte_of}
-use Rattle.homeward.proofs.Unplacing.{begun, reach, run_filled, check_at}
 use Rattle.homeward.proofs.put_check.Given as goal
 
 abbrev pub invariant-loop-i : goal.invariant-loop-i

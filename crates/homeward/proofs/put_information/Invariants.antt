@@ -1,12 +1,8 @@
 -- `homeward::put_information` meets its contract.
 -- Assumes nothing.
 use Prim.Native.Nat.{◌-◌, ◌*◌}
-use native.Mathlib.Nat.{zero-mul, mul-le-mul_right}
-use borrow.Author.Rules.{rules}
 use Rattle.array.specs.CodingArray.{superblock}
-use Rattle.array.proofs.Filling.{filled_all}
 use Rattle.homeward.specs.BackClauses.{Out}
-use Rattle.homeward.proofs.Unplacing.{begun}
 use Rattle.homeward.proofs.put_information.Given as goal
 
 abbrev pub invariant-loop-s : goal.invariant-loop-s

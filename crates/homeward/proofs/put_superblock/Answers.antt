@@ -2,12 +2,11 @@
 -- Assumes nothing.
 use mathlib.Core.Path.{◌≡◌, refl}
 use Prim.Native.Nat.{ℕ, ◌+◌, ◌-◌, ◌*◌, ◌<◌, ◌≤◌}
-use native.Mathlib.Nat.{le_antisymm, mul-le-mul_right}
+use native.Mathlib.Nat.{mul-le-mul_right}
 use native.Mathlib.Omega.{arith}
 use borrow.Author.Rules.{rules}
 use Rattle.array.specs.CodingArray.{superblock}
-use Rattle.homeward.specs.BackClauses.{Out}
-use Rattle.homeward.proofs.Unplacing.{run_reach, run_out, lower_run, upper_next}
+use Rattle.homeward.proofs.Unplacing.{run_out, lower_run, upper_next}
 use Rattle.homeward.proofs.put_superblock.Goals as goal
 
 -- where a superblock begins, and a row of it
@@ -21,7 +20,7 @@ next_row : (a w k : ℕ) → 210 < w → 2 ≤ k → a + (k + 1) * w - 16 ≡ a 
 next_row a w k h l = let t = mul-le-mul_right w l in omega arith
 
 pub put_upper_row-requires : goal.put_upper_row-requires
-put_upper_row-requires c κs =
+put_upper_row-requires c =
     let w = c.args.w in
     let s = c.args.s in
     record {
@@ -34,7 +33,7 @@ put_upper_row-requires c κs =
     }
 
 pub put_upper_row-requires-2 : goal.put_upper_row-requires-2
-put_upper_row-requires-2 c κs =
+put_upper_row-requires-2 c =
     let w = c.args.w in
     let s = c.args.s in
     record {

@@ -1,13 +1,8 @@
 -- `homeward::put_superblock` meets its contract.
 -- Assumes nothing.
-use mathlib.Core.Path.{◌≡◌, refl}
-use Prim.Native.Nat.{ℕ, ◌+◌, ◌-◌, ◌*◌, ◌<◌, ◌≤◌}
-use native.Mathlib.Nat.{le_antisymm, mul-le-mul_right}
-use native.Mathlib.Omega.{arith}
-use borrow.Author.Rules.{rules}
+use Prim.Native.Nat.{◌+◌, ◌-◌, ◌*◌, ◌≤◌}
 use Rattle.array.specs.CodingArray.{superblock}
 use Rattle.homeward.specs.BackClauses.{Out}
-use Rattle.homeward.proofs.Unplacing.{run_reach, run_out, lower_run, upper_next}
 use Rattle.homeward.proofs.put_superblock.Given as goal
 
 abbrev pub invariant-loop-k : goal.invariant-loop-k

@@ -1,16 +1,15 @@
 -- `homeward::put_upper_row` meets its contract.
 -- Assumes nothing.
-use mathlib.Core.Path.{◌≡◌, refl, subst}
-use Prim.Native.Nat.{ℕ, ◌+◌, ◌-◌, ◌*◌, ◌≤◌}
+use mathlib.Core.Path.{◌≡◌, refl}
+use Prim.Native.Nat.{◌+◌, ◌-◌, ◌*◌}
 use native.Mathlib.Nat.{le_antisymm}
 use native.Mathlib.Omega.{arith}
 use borrow.Author.Rules.{rules}
-use Rattle.homeward.specs.BackClauses.{Out}
 use Rattle.homeward.proofs.Unplacing.{run_reach, run_out, upper_run}
 use Rattle.homeward.proofs.put_upper_row.Goals as goal
 
 pub put_each-requires : goal.put_each-requires
-put_each-requires c κs =
+put_each-requires c =
     let pre = c.requires in
     let b = c.loop-b.b in
     run_reach pre.wide _ _ c.args.i (30 * b + 1) 29 (c.args.at + 29 * b) _ pre.array c.interleaved.ensures (upper_run _ _ b 29 _ _ pre.wide pre.row pre.upper (omega arith) (search rules) pre.next refl) c.loop-b.invariant.1
@@ -24,7 +23,7 @@ loop-b-preserved c =
     )
 
 pub put_each-requires-2 : goal.put_each-requires-2
-put_each-requires-2 c κs =
+put_each-requires-2 c =
     let pre = c.requires in
     let w = c.args.w in
     let e : c.loop-b.b ≡ 7 = le_antisymm c.loop-b.invariant.0 c.loop-b-test.false in

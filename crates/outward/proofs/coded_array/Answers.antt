@@ -1,15 +1,12 @@
 -- `outward::coded_array` meets its contract.
 -- Assumes nothing.
 use mathlib.Core.List.{[]}
-use mathlib.Core.Path.{refl, ◌∙◌}
-use Prim.Native.Nat.{◌-◌}
+use mathlib.Core.Path.{◌∙◌}
 use borrow.Author.Rules.{rules}
-use Rattle.array.specs.CodingArray.{width_of, coding_row, coding_array}
-use Rattle.coded.specs.Coded.{coded}
-use Rattle.outward.specs.OutClauses.{in_array}
-use Rattle.array.proofs.Filling.{Filled, filled_none, filled_more, filled_all}
+use Rattle.array.specs.CodingArray.{coding_array}
+use Rattle.array.proofs.Filling.{filled_more, filled_all}
 use Rattle.outward.proofs.Placing.{row_same}
-use Rattle.outward.proofs.CodedOut.{row_coded, room}
+use Rattle.outward.proofs.CodedOut.{row_coded}
 use Rattle.outward.proofs.coded_array.Goals as goal
 
 pub loop-i-preserved : goal.loop-i-preserved

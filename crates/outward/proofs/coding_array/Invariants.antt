@@ -1,13 +1,10 @@
 -- `outward::coding_array` meets its contract.
 -- Assumes nothing.
 use mathlib.Core.List.{[]}
-use mathlib.Core.Path.{refl, ◌∙◌}
 use Prim.Native.Nat.{◌-◌}
-use borrow.Author.Rules.{rules}
-use Rattle.array.specs.CodingArray.{coding_row, coding_array}
+use Rattle.array.specs.CodingArray.{coding_row}
 use Rattle.outward.specs.OutClauses.{in_array}
-use Rattle.array.proofs.Filling.{Filled, filled_none, filled_more, filled_all}
-use Rattle.outward.proofs.Placing.{row_same, held_any}
+use Rattle.array.proofs.Filling.{Filled}
 use Rattle.outward.proofs.coding_array.Given as goal
 
 abbrev pub invariant-loop-i : goal.invariant-loop-i

@@ -3,11 +3,10 @@
 use mathlib.Core.Path.{refl}
 use Prim.Native.Nat.{◌-◌, ◌*◌}
 use native.Mathlib.Omega.{arith}
-use borrow.Author.Rules.{rules}
 use Rattle.array.specs.CodingArray.{contents, coding_row}
 use Rattle.array.proofs.Filling.{filled_all}
 use Rattle.outward.specs.OutClauses.{in_array}
-use Rattle.outward.proofs.Placing.{part_filled, check_at, check_fits, columns_of}
+use Rattle.outward.proofs.Placing.{part_filled, check_at, check_fits}
 use Rattle.outward.proofs.coding_row.Goals as goal
 
 pub returns : goal.returns

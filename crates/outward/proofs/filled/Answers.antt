@@ -1,6 +1,5 @@
 -- `outward::filled` meets its contract.
 -- Assumes nothing.
-use borrow.Author.Rules.{rules}
 use Rattle.outward.proofs.Placing.{filled_at}
 use Rattle.outward.proofs.filled.Goals as goal
 

@@ -1,11 +1,7 @@
 -- `outward::index_at` meets its contract.
 -- Assumes nothing.
-use borrow.Author.Rules.{rules}
-use Prim.Native.Nat.{◌%◌}
-use native.Mathlib.Omega.{arith}
 use borrow.Author.Tests.{lt-ltb, le-ltb}
 use Rattle.array.specs.CodingArray.{index_at}
-use Rattle.outward.proofs.Placing.{start_le, rows_le, rows_ge, uppers_le, free_column}
 use Rattle.outward.proofs.index_at.Goals as goal
 
 pub returns-then-i-lt2 : goal.returns-then-i-lt2

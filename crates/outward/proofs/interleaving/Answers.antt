@@ -1,11 +1,9 @@
 -- `outward::interleaving` meets its contract.
 -- Assumes nothing.
-use mathlib.Core.Path.{◌≡◌, refl, sym}
-use Prim.Native.Nat.{◌+◌, ◌-◌, ◌*◌}
-use native.Mathlib.Omega.{arith}
+use Prim.Native.Nat.{◌*◌}
 use borrow.Author.Rules.{rules}
-use Rattle.array.proofs.Filling.{Filled, filled_none, filled_all}
-use Rattle.outward.specs.OutClauses.{interleaved_at, interleaving_by}
+use Rattle.array.proofs.Filling.{filled_all}
+use Rattle.outward.specs.OutClauses.{interleaving_by}
 use Rattle.outward.proofs.interleaving.Goals as goal
 
 pub returns : goal.returns

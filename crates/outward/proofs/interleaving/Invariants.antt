@@ -1,11 +1,8 @@
 -- `outward::interleaving` meets its contract.
 -- Assumes nothing.
-use mathlib.Core.Path.{◌≡◌, refl, sym}
-use Prim.Native.Nat.{◌+◌, ◌-◌, ◌*◌}
-use native.Mathlib.Omega.{arith}
-use borrow.Author.Rules.{rules}
-use Rattle.array.proofs.Filling.{Filled, filled_none, filled_all}
-use Rattle.outward.specs.OutClauses.{interleaved_at, interleaving_by}
+use Prim.Native.Nat.{◌-◌, ◌*◌}
+use Rattle.array.proofs.Filling.{Filled}
+use Rattle.outward.specs.OutClauses.{interleaved_at}
 use Rattle.outward.proofs.interleaving.Given as goal
 
 abbrev pub invariant-loop-u : goal.invariant-loop-u

@@ -18,13 +18,13 @@ returns-then-w-information c =
     refused_carried _ _ _ _ _ _ _ _ _ (asked a.fourteen a.information.now a.management.now a.supervision.now a.synchronising.now a.signalling.now a.output.now _ _ c.width-w.ensures.0 c.lengths-wrong.ensures) c.if-wrong-ne0.false (search rules)
 
 pub coded_array-array-requires : goal.coded_array-array-requires
-coded_array-array-requires c κs =
+coded_array-array-requires c =
     let a = c.args in
     let is : (k : ℕ) → _ = λ k. lengths_are a.fourteen a.information.now a.management.now a.supervision.now a.synchronising.now a.signalling.now a.output.now _ _ k c.lengths-wrong.ensures c.if-wrong-ne0.false in
     (omega (arith, c.if-w-information.false, c.width-w.ensures.0, width_most a.fourteen), is 1, is 2)
 
 pub put_output-requires : goal.put_output-requires
-put_output-requires c κs =
+put_output-requires c =
     let a = c.args in
     let is : (k : ℕ) → _ = λ k. lengths_are a.fourteen a.information.now a.management.now a.supervision.now a.synchronising.now a.signalling.now a.output.now _ _ k c.lengths-wrong.ensures c.if-wrong-ne0.false in
     (is 3, is 4, is 0)

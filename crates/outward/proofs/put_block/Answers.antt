@@ -3,9 +3,8 @@
 use mathlib.Core.Path.{refl}
 use Prim.Native.Nat.{◌+◌, ◌*◌, ◌/◌}
 use native.Mathlib.Omega.{arith}
-use borrow.Author.Rules.{rules}
 use Rattle.outward.specs.OutClauses.{upper_row_at}
-use Rattle.outward.proofs.Placing.{part_filled, block_free, block_fits, first_at, byte_at}
+use Rattle.outward.proofs.Placing.{part_filled, block_fits, first_at, byte_at}
 use Rattle.outward.proofs.put_block.Goals as goal
 
 pub overflow_add-from : goal.overflow_add-from

@@ -1,13 +1,8 @@
 -- `outward::put_column` meets its contract.
 -- Assumes nothing.
-use mathlib.Core.Path.{◌≡◌}
 use Prim.Native.Nat.{◌+◌, ◌-◌, ◌*◌, ◌≤◌}
-use native.Mathlib.Nat.{le_antisymm}
-use native.Mathlib.Omega.{arith}
-use borrow.Author.Rules.{rules}
-use Rattle.array.proofs.Filling.{Filled, filled_more}
+use Rattle.array.proofs.Filling.{Filled}
 use Rattle.outward.specs.OutClauses.{interleaved_at}
-use Rattle.outward.proofs.Placing.{column_at_lem}
 use Rattle.outward.proofs.put_column.Given as goal
 
 abbrev pub invariant-loop-k : goal.invariant-loop-k

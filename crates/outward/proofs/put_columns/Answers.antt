@@ -1,7 +1,7 @@
 -- `outward::put_columns` meets its contract.
 -- Assumes nothing.
 use borrow.Author.Rules.{rules}
-use Rattle.outward.proofs.Placing.{upper_of, lower_of, management_columns, supervision_columns, lower_columns}
+use Rattle.outward.proofs.Placing.{management_columns, supervision_columns, lower_columns}
 use Rattle.outward.proofs.put_columns.Goals as goal
 
 pub returns-then-i-eq0 : goal.returns-then-i-eq0

@@ -2,10 +2,9 @@
 -- Assumes nothing.
 use mathlib.Core.Path.{refl}
 use native.Mathlib.Omega.{arith}
-use borrow.Author.Rules.{rules}
 use Rattle.array.proofs.Filling.{filled_none}
 use Rattle.outward.specs.OutClauses.{lower_row_at}
-use Rattle.outward.proofs.Placing.{part_filled, lower_free, lower_fits, lower_at}
+use Rattle.outward.proofs.Placing.{part_filled, lower_fits, lower_at}
 use Rattle.outward.proofs.put_lower_row.Goals as goal
 
 pub overflow_add-from : goal.overflow_add-from

@@ -1,11 +1,9 @@
 -- `outward::put_output` meets its contract.
 -- Assumes nothing.
 use Prim.Native.Nat.{◌-◌, ◌*◌}
-use borrow.Author.Rules.{rules}
 use Rattle.array.specs.OutputArray.{output_at}
-use Rattle.array.proofs.Filling.{Filled, filled_none, filled_all}
-use Rattle.outward.specs.OutClauses.{beside, output_by}
-use Rattle.outward.proofs.Placing.{interleaving_length, first_length, even_line, odd_line}
+use Rattle.array.proofs.Filling.{Filled}
+use Rattle.outward.specs.OutClauses.{beside}
 use Rattle.outward.proofs.put_output.Given as goal
 
 abbrev pub invariant-loop-n : goal.invariant-loop-n

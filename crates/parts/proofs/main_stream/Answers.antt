@@ -1,6 +1,5 @@
 use Rattle.frame.proofs.Tiling.{main_part_inside}
-use borrow.Author.Rules.{rules}
 use Rattle.parts.proofs.main_stream.Goals as goal
 
 pub part-requires : goal.part-requires
-part-requires c κs = rw c.main_place.ensures (main_part_inside _)
+part-requires c = rw c.main_place.ensures (main_part_inside _)

@@ -1,5 +1,4 @@
 use Rattle.frame.specs.Writing.{fl_in}
-use borrow.Author.Rules.{rules}
 use Rattle.writing.proofs.fl.Goals as goal
 
 pub returns : goal.returns

@@ -1,9 +1,8 @@
-use mathlib.Core.Path.{◌≡◌, refl, ap, ◌∙◌}
-use Prim.Native.Nat.{ℕ, ◌≤◌, ◌-◌}
+use mathlib.Core.Path.{◌≡◌, refl}
+use Prim.Native.Nat.{◌-◌}
 use native.Mathlib.Omega.{arith}
 use borrow.Author.Rules.{rules}
-use lib.ListN.{length, replicate, length-set}
-use Rattle.octets.specs.Stores.{put}
+use lib.ListN.{length-set}
 use Rattle.octets.proofs.Storing.{put_none}
 use Rattle.writing.proofs.Puts.{pad_more}
 use Rattle.writing.proofs.pad.Goals as goal

@@ -1,11 +1,7 @@
-use mathlib.Core.Path.{◌≡◌, refl, ap, ◌∙◌}
-use Prim.Native.Nat.{ℕ, ◌≤◌, ◌-◌}
-use native.Mathlib.Omega.{arith}
-use borrow.Author.Rules.{rules}
-use lib.ListN.{length, replicate, length-set}
+use mathlib.Core.Path.{◌≡◌}
+use Prim.Native.Nat.{◌≤◌, ◌-◌}
+use lib.ListN.{length, replicate}
 use Rattle.octets.specs.Stores.{put}
-use Rattle.octets.proofs.Storing.{put_none}
-use Rattle.writing.proofs.Puts.{pad_more}
 use Rattle.writing.proofs.pad.Given as goal
 
 abbrev pub invariant-loop-i : goal.invariant-loop-i

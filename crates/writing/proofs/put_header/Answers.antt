@@ -1,5 +1,4 @@
 use Rattle.writing.proofs.Filled.{header_puts, header_length}
-use borrow.Author.Rules.{rules}
 use Rattle.writing.proofs.put_header.Goals as goal
 
 pub returns : goal.returns

@@ -1,13 +1,8 @@
-use mathlib.Core.Path.{◌≡◌, refl, ◌∙◌}
-use Prim.Native.Nat.{◌+◌, ◌≤◌, ◌-◌}
-use native.Mathlib.Nat.{le_antisymm}
-use native.Mathlib.Omega.{arith}
-use borrow.Author.Rules.{rules}
+use mathlib.Core.Path.{◌≡◌}
+use Prim.Native.Nat.{◌≤◌, ◌-◌}
 use lib.ListN.{length, take}
 use Rattle.octets.specs.Stores.{put}
 use Rattle.frame.specs.Writing.{streams_bytes}
-use Rattle.octets.proofs.Storing.{put_none}
-use Rattle.writing.proofs.Puts.{streams_more}
 use Rattle.writing.proofs.put_streams.Given as goal
 
 abbrev pub invariant-loop-i : goal.invariant-loop-i
