@@ -2,6 +2,7 @@
 #![tactic(auto)]
 
 use frame::{Header, Stream, Timestamp};
+use std::io;
 use workbench::build::{Given, build, header, plain};
 use workbench::line;
 
@@ -19,38 +20,38 @@ fn digit(b: bool) -> usize {
     if b { 1 } else { 0 }
 }
 
-fn numbers(h: Header) {
-    line::plain(b"FSYNC1", digit(h.fsync1), 1);
-    line::plain(b"FCT", h.fct as usize, 17);
-    line::plain(b"NST", h.nst as usize, 1);
-    line::plain(b"FP", h.fp as usize, 5);
-    line::plain(b"MID", h.mid as usize, 1);
+fn numbers(rt: &impl Print, h: Header) -> io::Result<()> {
+    line::plain(rt, b"FSYNC1", digit(h.fsync1), 1)?;
+    line::plain(rt, b"FCT", h.fct as usize, 17)?;
+    line::plain(rt, b"NST", h.nst as usize, 1)?;
+    line::plain(rt, b"FP", h.fp as usize, 5)?;
+    line::plain(rt, b"MID", h.mid as usize, 1)
 }
 
-fn words(h: Header) {
-    line::plain(b"FL", h.fl as usize, 74);
-    line::sum(b"MNSC", h.mnsc, 0x1234);
-    line::sum(b"Rfu", h.rfu, 0xffff);
-    line::plain(b"Rfa", h.rfa as usize, 255);
+fn words(rt: &impl Print, h: Header) -> io::Result<()> {
+    line::plain(rt, b"FL", h.fl as usize, 74)?;
+    line::sum(rt, b"MNSC", h.mnsc, 0x1234)?;
+    line::sum(rt, b"Rfu", h.rfu, 0xffff)?;
+    line::plain(rt, b"Rfa", h.rfa as usize, 255)
 }
 
-fn fields() {
+fn fields(rt: &impl Print) -> io::Result<()> {
     let mut g = plain();
     g.sync = 0xfff8c549;
     let h = header(g);
-    numbers(h);
-    words(h);
+    numbers(rt, h)?;
+    words(rt, h)
 }
 
-fn timestamps() {
+fn timestamps(rt: &impl Print) -> io::Result<()> {
     let mut g = plain();
-    line::plain(b"timestamp ffffff, sort", sort(g), 0);
+    line::plain(rt, b"timestamp ffffff, sort", sort(g), 0)?;
     g.time = 0xfffffe;
-    line::plain(b"timestamp fffffe, sort", sort(g), 2);
+    line::plain(rt, b"timestamp fffffe, sort", sort(g), 2)?;
     g.time = 0xfa0000;
-    line::plain(b"timestamp fa0000, sort", sort(g), 2);
+    line::plain(rt, b"timestamp fa0000, sort", sort(g), 2)?;
     g.time = 16383999;
-    line::plain(b"timestamp f9ffff, sort", sort(g), 1);
+    line::plain(rt, b"timestamp f9ffff, sort", sort(g), 1)
 }
 
 fn table() -> [Stream; 64] {
@@ -60,58 +61,63 @@ fn table() -> [Stream; 64] {
     reading.table
 }
 
-fn entry(s: Stream) {
-    line::plain(b"SCID", s.scid as usize, 1);
-    line::plain(b"SAD", s.sad as usize, 54);
-    line::plain(b"TPL", s.tpl as usize, 34);
-    line::plain(b"STL", s.stl as usize, 24);
+fn entry(rt: &impl Print, s: Stream) -> io::Result<()> {
+    line::plain(rt, b"SCID", s.scid as usize, 1)?;
+    line::plain(rt, b"SAD", s.sad as usize, 54)?;
+    line::plain(rt, b"TPL", s.tpl as usize, 34)?;
+    line::plain(rt, b"STL", s.stl as usize, 24)
 }
 
-fn entries() {
+fn entries(rt: &impl Print) -> io::Result<()> {
     let table = table();
-    entry(table[0]);
+    entry(rt, table[0])?;
     let beyond = table[1];
-    line::plain(b"STL beyond the count", beyond.stl as usize, 0);
+    line::plain(rt, b"STL beyond the count", beyond.stl as usize, 0)
 }
 
 // The FIC and the first stream of a frame: places and lengths.
-fn parts(given: &[u8], g: Given, fic_len: usize, start: usize) {
+fn parts(rt: &impl Print, given: &[u8], g: Given, fic_len: usize, start: usize) -> io::Result<()> {
     let mut frame = [0x55u8; 6144];
     build(&mut frame, g);
-    line::text(given);
-    line::plain(b", FIC bytes", parts::fic(&frame).len(), fic_len);
+    line::text(rt, given)?;
+    line::plain(rt, b", FIC bytes", parts::fic(&frame).len(), fic_len)?;
     let place = spans::stream_place(&frame, 0);
-    line::text(given);
-    line::plain(b", stream 0 begins at", place.start, start);
-    line::text(given);
-    line::plain(b", stream 0 bytes", parts::stream(&frame, 0).len(), 192);
+    line::text(rt, given)?;
+    line::plain(rt, b", stream 0 begins at", place.start, start)?;
+    line::text(rt, given)?;
+    line::plain(rt, b", stream 0 bytes", parts::stream(&frame, 0).len(), 192)
 }
 
-fn index(i: usize, expected: usize, len: usize) {
+fn index(rt: &impl Print, i: usize, expected: usize, len: usize) -> io::Result<()> {
     let mut frame = [0x55u8; 6144];
     build(&mut frame, plain());
     let result = spans::stream_refusal(&frame, i);
-    line::text(b"refusal, stream index ");
-    line::number(i);
-    line::plain(b"", result as usize, expected);
-    line::plain(b"bytes of its part", parts::stream(&frame, i).len(), len);
+    line::text(rt, b"refusal, stream index ")?;
+    line::number(rt, i)?;
+    line::plain(rt, b"", result as usize, expected)?;
+    line::plain(
+        rt,
+        b"bytes of its part",
+        parts::stream(&frame, i).len(),
+        len,
+    )
 }
 
-fn all_parts() {
+fn all_parts(rt: &impl Print) -> io::Result<()> {
     let mut g = plain();
-    parts(b"MID 1", g, 96, 112);
+    parts(rt, b"MID 1", g, 96, 112)?;
     g.mid = 3;
-    parts(b"MID 3", g, 128, 144);
+    parts(rt, b"MID 3", g, 128, 144)?;
     g.ficf = 0;
-    parts(b"FICF 0", g, 0, 16);
+    parts(rt, b"FICF 0", g, 0, 16)
 }
 
-fn main() {
-    fields();
-    timestamps();
-    entries();
-    all_parts();
-    index(0, 0, 192);
-    index(1, 13, 0);
-    index(18446744073709551615, 13, 0);
+fn main(rt: HostRuntime) -> io::Result<()> {
+    fields(&rt)?;
+    timestamps(&rt)?;
+    entries(&rt)?;
+    all_parts(&rt)?;
+    index(&rt, 0, 0, 192)?;
+    index(&rt, 1, 13, 0)?;
+    index(&rt, 18446744073709551615, 13, 0)
 }

@@ -1,85 +1,100 @@
 // The listing: a line for each item of the walk over the record on standard input.
 #![tactic(auto)]
 
-use libc::STDOUT_FILENO;
+ghost use Rattle.std.specs.Prelude.{◌≤◌, length};
+
+use std::io::{self, Read};
 use walk::{Begun, Item, State};
 
-fn text(words: &[u8]) {
-    io::write_all(STDOUT_FILENO, words);
+fn text(rt: &impl Print, words: &[u8]) -> io::Result<()> {
+    rt.write_all(words)
 }
 
-fn number(n: usize) {
-    io::print_decimal(STDOUT_FILENO, n as u64);
+fn number(rt: &impl Print, n: usize) -> io::Result<()> {
+    print!(rt; "{n}")
 }
 
 // PLACE KIND CODE
-fn item_line(place: usize, kind: &[u8], code: u8) {
-    number(place);
-    text(kind);
-    number(code as usize);
+fn item_line(rt: &impl Print, place: usize, kind: &[u8], code: u8) -> io::Result<()> {
+    number(rt, place)?;
+    text(rt, kind)?;
+    number(rt, code as usize)
 }
 
 // The item's line. False where the walk is done.
-fn show(item: Item) -> bool {
+fn show(rt: &impl Print, item: Item) -> io::Result<bool> {
     match item {
         Item::Frame(p, h) => {
-            item_line(p, b" frame ", h.fct);
-            text(b" ");
-            number(h.level as usize);
-            text(b"\n");
-            true
+            item_line(rt, p, b" frame ", h.fct)?;
+            text(rt, b" ")?;
+            number(rt, h.level as usize)?;
+            text(rt, b"\n")?;
+            Ok(true)
         }
         Item::Lost(p, n) => {
-            item_line(p, b" lost ", n);
-            text(b" -\n");
-            true
+            item_line(rt, p, b" lost ", n)?;
+            text(rt, b" -\n")?;
+            Ok(true)
         }
         Item::Idle(p) => {
-            item_line(p, b" idle ", 4);
-            text(b" -\n");
-            true
+            item_line(rt, p, b" idle ", 4)?;
+            text(rt, b" -\n")?;
+            Ok(true)
         }
         Item::Done(p) => {
-            text(b"end ");
-            number(p);
-            text(b"\n");
-            false
+            text(rt, b"end ")?;
+            number(rt, p)?;
+            text(rt, b"\n")?;
+            Ok(false)
         }
     }
 }
 
 // A record of n bytes has at most n items before it is done.
-fn list(record: &[u8], start: State) {
-    text(b"place kind code level\n");
+fn list(rt: &impl Print, record: &[u8], start: State) -> io::Result<()> {
+    text(rt, b"place kind code level\n")?;
     let mut walk = start;
-    let mut left: usize = 65536;
-    while left > 0 {
+    for _ in 0..65536 {
         let step = walk.step(record);
         let item = step.item;
         walk = step.walk;
-        if show(item) {
-            left -= 1;
-        } else {
-            left = 0;
+        if !show(rt, item)? {
+            break;
         }
     }
+    Ok(())
 }
 
-fn main() {
-    let mut bytes = io::large_buffer();
-    let n = io::read_full(0, &mut bytes);
+// Reads until buf is full, the input ends or a read fails, and returns how many bytes it put at the start of buf.
+fn read_full(from: &mut impl Read, buf: &mut [u8]) -> usize
+    ensures { result ≤ length buf.new }
+{
+    let mut done: usize = 0;
+    while done < buf.len() {
+        match from.read(&mut buf[done..]) {
+            Ok(0) => break,
+            Ok(n) => done += n,
+            Err(_) => break,
+        }
+    }
+    done
+}
+
+fn main(rt: HostRuntime) -> io::Result<()> {
+    let mut input = rt.stdin();
+    let mut bytes = [0u8; 65536];
+    let n = read_full(&mut input, &mut bytes);
     if n > 61440 {
-        text(b"too long\n");
-        return;
+        return text(&rt, b"too long\n");
     }
     // read_full takes an error for the end; asked once more, only the end answers 0
-    let mut more = io::buffer();
-    if libc::read(0, &mut more) != 0 {
-        text(b"cannot read\n");
-        return;
+    let mut more = [0u8; 4096];
+    match input.read(&mut more) {
+        Ok(0) => {}
+        _ => return text(&rt, b"cannot read\n"),
     }
     match walk::begin(3) {
-        Begun::Walk(start) => list(&bytes[..n], start),
-        Begun::Refused(_) => text(b"limit refused\n"),
+        Begun::Walk(start) => list(&rt, &bytes[..n], start),
+        Begun::Refused(_) => text(&rt, b"limit refused\n"),
     }
 }

@@ -5,7 +5,9 @@ mod expected;
 mod frames;
 mod sums;
 
-fn main() {
-    sums::rows();
-    frames::rows();
+use std::io;
+
+fn main(rt: HostRuntime) -> io::Result<()> {
+    sums::rows(&rt)?;
+    frames::rows(&rt)
 }

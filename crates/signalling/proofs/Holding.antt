@@ -134,6 +134,7 @@ begins r e = record { state = e; holds = λ l h. rw e (record { due = lit≤ tt;
 pub calls_follow : (seen : List Frame) (s : State) (l : List ℕ) (fs : List Frame) (xs : List Handed) → Holds (gathering seen) (stringing seen) s l → Calls s l fs xs
     → items (seen ++ fs) ≡ items seen ++ xs
 calls_follow seen s l [] [] h Calls.over = ap items (append-nil seen) ∙ sym (append-nil (items seen))
+calls_follow seen s l [] (_ ∷ _) h c = elim c [ ]
 calls_follow seen s l (f ∷ fs) _ h (Calls.call {after = after} {r} {xs = xs} t c) =
     let k = t.follows seen h in
     ap items (sym (append_assoc seen (f ∷ []) fs))

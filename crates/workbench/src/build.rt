@@ -57,15 +57,13 @@ fn stl(g: Given, i: u8) -> u16 {
 // SCID 1 and up, SAD 54, TPL 34.
 fn put_table(frame: &mut [u8], g: Given) {
     let n = g.nst;
-    let mut i: u8 = 0;
-    while i < n {
+    for i in 0..n {
         let s = stl(g, i);
         let word = ((i % 63 + 1) as usize) * 67108864
             + 54 * 65536
             + 34 * 1024
             + (s % 1024) as usize;
         putting::put4(frame, 8 + (i as usize) * 4, word);
-        i += 1;
     }
 }
 
@@ -75,21 +73,17 @@ fn words(g: Given) -> usize
 {
     let n = g.nst;
     let mut words = meaning::ficl(g.ficf, g.mid);
-    let mut i: u8 = 0;
-    while i < n {
+    for i in 0..n {
         let s = stl(g, i);
         words += 2 * (s as usize);
-        i += 1;
     }
     words
 }
 
 // The bytes from start up to end, with no order in their bits.
 pub fn put_main(frame: &mut [u8], start: usize, end: usize) {
-    let mut i = start;
-    while i < end {
+    for i in start..end {
         put1(frame, i, (i % 251) as u8);
-        i += 1;
     }
 }
 

@@ -1,38 +1,32 @@
 // A row: what was tried, the result, what it should be, and whether it is.
-use libc::STDOUT_FILENO;
+use std::io;
 
-pub fn text(words: &[u8]) {
-    io::write_all(STDOUT_FILENO, words);
+pub fn text(rt: &impl Print, words: &[u8]) -> io::Result<()> {
+    rt.write_all(words)
 }
 
-pub fn number(n: usize) {
-    io::print_decimal(STDOUT_FILENO, n as u64);
+pub fn number(rt: &impl Print, n: usize) -> io::Result<()> {
+    print!(rt; "{n}")
 }
 
-fn verdict(right: bool) {
+fn verdict(rt: &impl Print, right: bool) -> io::Result<()> {
     if right {
-        text(b" ok\n");
+        text(rt, b" ok\n")
     } else {
-        text(b" WRONG\n");
+        text(rt, b" WRONG\n")
     }
 }
 
 // A row on a sum; what `text` and `number` printed before it stands at its beginning.
-pub fn sum(tried: &[u8], res: u16, expected: u16) {
-    text(tried);
-    text(b": ");
-    io::print_hex(STDOUT_FILENO, res as u64, 4);
-    text(b" ");
-    io::print_hex(STDOUT_FILENO, expected as u64, 4);
-    verdict(res == expected);
+pub fn sum(rt: &impl Print, tried: &[u8], res: u16, expected: u16) -> io::Result<()> {
+    text(rt, tried)?;
+    print!(rt; ": {res:04x} {expected:04x}")?;
+    verdict(rt, res == expected)
 }
 
 // A row on any other number.
-pub fn plain(tried: &[u8], res: usize, expected: usize) {
-    text(tried);
-    text(b": ");
-    number(res);
-    text(b" ");
-    number(expected);
-    verdict(res == expected);
+pub fn plain(rt: &impl Print, tried: &[u8], res: usize, expected: usize) -> io::Result<()> {
+    text(rt, tried)?;
+    print!(rt; ": {res} {expected}")?;
+    verdict(rt, res == expected)
 }

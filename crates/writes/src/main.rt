@@ -2,6 +2,7 @@
 #![tactic(auto)]
 
 use frame::{Fields, Stream, Timestamp};
+use std::io;
 use workbench::build::put_main;
 use workbench::line;
 
@@ -70,157 +71,167 @@ fn write(x: Fields, n: usize, out: &mut [u8]) -> u8 {
     255
 }
 
-fn refusal(given: &[u8], x: Fields, n: usize, expected: usize) {
+fn refusal(rt: &impl Print, given: &[u8], x: Fields, n: usize, expected: usize) -> io::Result<()> {
     let mut out = [0u8; 6144];
     let result = write(x, n, &mut out);
-    line::text(b"writing, ");
-    line::plain(given, result as usize, expected);
+    line::text(rt, b"writing, ")?;
+    line::plain(rt, given, result as usize, expected)
 }
 
 // Refusal 1, for n bytes of output.
-fn lent(given: &[u8], x: Fields, n: usize) {
-    let mut bytes = io::large_buffer();
+fn lent(rt: &impl Print, given: &[u8], x: Fields, n: usize) -> io::Result<()> {
+    let mut bytes = [0u8; 65536];
     if n <= bytes.len() {
         let result = write(x, 288, &mut bytes[..n]);
-        line::text(b"writing, ");
-        line::plain(given, result as usize, 1);
+        line::text(rt, b"writing, ")?;
+        line::plain(rt, given, result as usize, 1)?;
     }
+    Ok(())
 }
 
-fn wide(given: &[u8], s: Stream) {
+fn wide(rt: &impl Print, given: &[u8], s: Stream) -> io::Result<()> {
     let mut x = plain();
     x.table[0] = s;
-    refusal(given, x, 288, 12);
+    refusal(rt, given, x, 288, 12)
 }
 
-fn lengths() {
-    lent(b"6143 bytes of output", plain(), 6143);
-    lent(b"6145 bytes of output", plain(), 6145);
+fn lengths(rt: &impl Print) -> io::Result<()> {
+    lent(rt, b"6143 bytes of output", plain(), 6143)?;
+    lent(rt, b"6145 bytes of output", plain(), 6145)
 }
 
-fn wide_headers() {
-    refusal(b"level 4", with(4, 17, 5, 1, 1), 288, 12);
-    refusal(b"FP 8", with(0, 17, 8, 1, 1), 288, 12);
-    refusal(b"MID 4", with(0, 17, 5, 4, 1), 288, 12);
+fn wide_headers(rt: &impl Print) -> io::Result<()> {
+    refusal(rt, b"level 4", with(4, 17, 5, 1, 1), 288, 12)?;
+    refusal(rt, b"FP 8", with(0, 17, 8, 1, 1), 288, 12)?;
+    refusal(rt, b"MID 4", with(0, 17, 5, 4, 1), 288, 12)
 }
 
-fn wide_entries() {
-    wide(b"SCID 64", entry(64, 54, 34, 24));
-    wide(b"SAD 1024", entry(1, 1024, 34, 24));
-    wide(b"TPL 64", entry(1, 54, 64, 24));
-    wide(b"STL 1024", entry(1, 54, 34, 1024));
+fn wide_entries(rt: &impl Print) -> io::Result<()> {
+    wide(rt, b"SCID 64", entry(64, 54, 34, 24))?;
+    wide(rt, b"SAD 1024", entry(1, 1024, 34, 24))?;
+    wide(rt, b"TPL 64", entry(1, 54, 64, 24))?;
+    wide(rt, b"STL 1024", entry(1, 54, 34, 1024))
 }
 
-fn wide_time() {
+fn wide_time(rt: &impl Print) -> io::Result<()> {
     let mut x = fields(Timestamp::Time(0xffffff));
-    refusal(b"the time ffffff", x, 288, 12);
+    refusal(rt, b"the time ffffff", x, 288, 12)?;
     x = fields(Timestamp::Time(0xfa0000));
-    refusal(b"the time fa0000", x, 288, 12);
+    refusal(rt, b"the time fa0000", x, 288, 12)?;
     x = fields(Timestamp::Reserved(0xf9ffff));
-    refusal(b"the reserved number f9ffff", x, 288, 12);
+    refusal(rt, b"the reserved number f9ffff", x, 288, 12)?;
     x = fields(Timestamp::Reserved(0xffffff));
-    refusal(b"the reserved number ffffff", x, 288, 12);
+    refusal(rt, b"the reserved number ffffff", x, 288, 12)
 }
 
-fn alone() {
-    refusal(b"count 65", with(0, 17, 5, 1, 65), 288, 5);
-    refusal(b"FCT 250", with(0, 250, 5, 1, 1), 288, 7);
+fn alone(rt: &impl Print) -> io::Result<()> {
+    refusal(rt, b"count 65", with(0, 17, 5, 1, 65), 288, 5)?;
+    refusal(rt, b"FCT 250", with(0, 250, 5, 1, 1), 288, 7)?;
     let mut x = streams(1, 685, 0, 0);
-    refusal(b"STL 685", x, 5480, 8);
+    refusal(rt, b"STL 685", x, 5480, 8)?;
     x = streams(2, 383, 382, 0);
-    refusal(b"2 streams, FICF 0, STL total 765", x, 6120, 10);
+    refusal(rt, b"2 streams, FICF 0, STL total 765", x, 6120, 10)
 }
 
-fn main_lengths() {
-    refusal(b"main stream one byte short", plain(), 287, 11);
-    refusal(b"main stream one byte long", plain(), 289, 11);
+fn main_lengths(rt: &impl Print) -> io::Result<()> {
+    refusal(rt, b"main stream one byte short", plain(), 287, 11)?;
+    refusal(rt, b"main stream one byte long", plain(), 289, 11)
 }
 
-fn pairs() {
+fn pairs(rt: &impl Print) -> io::Result<()> {
     lent(
+        rt,
         b"6143 bytes of output and level 4",
         with(4, 17, 5, 1, 1),
         6143,
-    );
+    )?;
     let mut x = with(0, 17, 5, 1, 65);
     x.table[63] = entry(1, 1024, 34, 24);
-    refusal(b"count 65 and entry 63 with SAD 1024", x, 288, 12);
+    refusal(rt, b"count 65 and entry 63 with SAD 1024", x, 288, 12)?;
     x.table[63] = entry(1, 1023, 34, 24);
-    refusal(b"count 65 and entry 63 with SAD 1023", x, 288, 5);
+    refusal(rt, b"count 65 and entry 63 with SAD 1023", x, 288, 5)?;
     x.fct = 250;
-    refusal(b"count 65 and FCT 250", x, 288, 5);
+    refusal(rt, b"count 65 and FCT 250", x, 288, 5)
 }
 
-fn pairs_of_streams() {
+fn pairs_of_streams(rt: &impl Print) -> io::Result<()> {
     let mut x = streams(1, 685, 0, 0);
     x.fct = 250;
-    refusal(b"FCT 250 and STL 685", x, 5480, 7);
+    refusal(rt, b"FCT 250 and STL 685", x, 5480, 7)?;
     refusal(
+        rt,
         b"STL 685 and 80, so that FL is 1533",
         streams(2, 685, 80, 0),
         6120,
         8,
-    );
+    )?;
     refusal(
+        rt,
         b"FL 1533 and main stream one byte short",
         streams(2, 383, 382, 0),
         6119,
         10,
-    );
+    )
 }
 
 // A frame that is written, and accepted by reading.
-fn accepted(given: &[u8], x: Fields, n: usize) {
+fn accepted(rt: &impl Print, given: &[u8], x: Fields, n: usize) -> io::Result<()> {
     let mut out = [0u8; 6144];
     let result = write(x, n, &mut out);
-    line::text(b"writing, ");
-    line::plain(given, result as usize, 0);
-    line::plain(b"reading it", judging::judge(&out) as usize, 0);
+    line::text(rt, b"writing, ")?;
+    line::plain(rt, given, result as usize, 0)?;
+    line::plain(rt, b"reading it", judging::judge(&out) as usize, 0)
 }
 
-fn written() {
+fn written(rt: &impl Print) -> io::Result<()> {
     let mut x = plain();
     x.table[1] = entry(255, 54, 34, 1023);
-    accepted(b"count 1 and entry 1 with SCID 255 and STL 1023", x, 288);
     accepted(
+        rt,
+        b"count 1 and entry 1 with SCID 255 and STL 1023",
+        x,
+        288,
+    )?;
+    accepted(
+        rt,
         b"3 streams, FICF 0, STL total 764",
         streams(3, 255, 255, 254),
         6112,
-    );
-    accepted(b"no stream, FICF 0", streams(0, 0, 0, 0), 0);
+    )?;
+    accepted(rt, b"no stream, FICF 0", streams(0, 0, 0, 0), 0)
 }
 
 // A refused writing leaves the output as it was: byte i is i mod 251.
-fn kept(given: &[u8], x: Fields, n: usize) {
+fn kept(rt: &impl Print, given: &[u8], x: Fields, n: usize) -> io::Result<()> {
     let mut out = [0u8; 6144];
     put_main(&mut out, 0, 6144);
-    line::text(b"sum of the output before writing refused for ");
-    line::sum(given, ring::sum(&out), 0x4bd7);
+    line::text(rt, b"sum of the output before writing refused for ")?;
+    line::sum(rt, given, ring::sum(&out), 0x4bd7)?;
     write(x, n, &mut out);
-    line::sum(b"sum of it after", ring::sum(&out), 0x4bd7);
+    line::sum(rt, b"sum of it after", ring::sum(&out), 0x4bd7)
 }
 
-fn refused() {
-    kept(b"level 4", with(4, 17, 5, 1, 1), 288);
-    kept(b"FL 1533", streams(2, 383, 382, 0), 6120);
-    kept(b"main stream one byte short", plain(), 287);
+fn refused(rt: &impl Print) -> io::Result<()> {
+    kept(rt, b"level 4", with(4, 17, 5, 1, 1), 288)?;
+    kept(rt, b"FL 1533", streams(2, 383, 382, 0), 6120)?;
+    kept(rt, b"main stream one byte short", plain(), 287)
 }
 
-fn prefix(bytes: &[u8], n: usize, expected: u16) {
-    line::text(b"sum of the written frame's first ");
-    line::number(n);
-    line::sum(b"", ring::sum_between(bytes, 0, n), expected);
+fn prefix(rt: &impl Print, bytes: &[u8], n: usize, expected: u16) -> io::Result<()> {
+    line::text(rt, b"sum of the written frame's first ")?;
+    line::number(rt, n)?;
+    line::sum(rt, b"", ring::sum_between(bytes, 0, n), expected)
 }
 
 // The whole frame's sum takes in the two sums inside, so it is the same for every header and main stream of these lengths:
 // the first row stops before the header sum, the second before the main-stream sum.
-fn plain_frame() {
+fn plain_frame(rt: &impl Print) -> io::Result<()> {
     let mut out = [0u8; 6144];
     let result = write(plain(), 288, &mut out);
-    line::plain(b"writing, one stream", result as usize, 0);
-    prefix(&out, 14, 0x9c44);
-    prefix(&out, 304, 0x5287);
-    prefix(&out, 6144, 0x02d0);
+    line::plain(rt, b"writing, one stream", result as usize, 0)?;
+    prefix(rt, &out, 14, 0x9c44)?;
+    prefix(rt, &out, 304, 0x5287)?;
+    prefix(rt, &out, 6144, 0x02d0)
 }
 
 fn full() -> Fields {
@@ -239,26 +250,26 @@ fn full() -> Fields {
     x
 }
 
-fn full_frame() {
+fn full_frame(rt: &impl Print) -> io::Result<()> {
     let mut out = [0u8; 6144];
     let result = write(full(), 536, &mut out);
-    line::plain(b"writing, two streams and a time", result as usize, 0);
-    prefix(&out, 18, 0x43ac);
-    prefix(&out, 556, 0xdb70);
-    prefix(&out, 6144, 0x06ed);
+    line::plain(rt, b"writing, two streams and a time", result as usize, 0)?;
+    prefix(rt, &out, 18, 0x43ac)?;
+    prefix(rt, &out, 556, 0xdb70)?;
+    prefix(rt, &out, 6144, 0x06ed)
 }
 
-fn main() {
-    lengths();
-    wide_headers();
-    wide_entries();
-    wide_time();
-    alone();
-    main_lengths();
-    pairs();
-    pairs_of_streams();
-    written();
-    refused();
-    plain_frame();
-    full_frame();
+fn main(rt: HostRuntime) -> io::Result<()> {
+    lengths(&rt)?;
+    wide_headers(&rt)?;
+    wide_entries(&rt)?;
+    wide_time(&rt)?;
+    alone(&rt)?;
+    main_lengths(&rt)?;
+    pairs(&rt)?;
+    pairs_of_streams(&rt)?;
+    written(&rt)?;
+    refused(&rt)?;
+    plain_frame(&rt)?;
+    full_frame(&rt)
 }
