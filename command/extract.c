@@ -16,7 +16,7 @@ static void put(const uint8_t *bytes, struct taking *t) {
     t->bytes += t->last;
 }
 
-/* A period that has not the part: a lost or idle one, or a frame without that stream or without a FIC. */
+/* A period that has not the part: a lost or idle one, or a frame without that stream. */
 static void fill(struct taking *t) {
     static const uint8_t zeros[SPINDLEWREN_FRAME];
     if (!t->fill || t->last == 0) return;
@@ -24,19 +24,19 @@ static void fill(struct taking *t) {
     t->filled++;
 }
 
-/* Whether a frame has the part; a FIC that it has not is an empty one to the boundary. */
-static int has(const struct taking *t, const uint8_t *frame, uint8_t *part) {
-    if (!t->fic) return spindlewren_stream(frame, SPINDLEWREN_FRAME, t->stream, part, SPINDLEWREN_PART) == SPINDLEWREN_ACCEPTED;
-    return spindlewren_fic(frame, SPINDLEWREN_FRAME, part, SPINDLEWREN_PART) == SPINDLEWREN_ACCEPTED && spindlewren_number(part, SPINDLEWREN_LEN, 2) > 0;
-}
-
 static void take(const uint8_t *frame, uint64_t place, const uint8_t *walk, void *to) {
     struct taking *t = to;
-    uint8_t part[SPINDLEWREN_PART], kind = walk[SPINDLEWREN_KIND];
+    uint8_t part[SPINDLEWREN_PART];
+    uint8_t refusal;
     (void)place;
-    if (kind == SPINDLEWREN_IS_DONE) return;
-    if (kind == SPINDLEWREN_IS_FRAME) t->handed_out = 1;
-    if (kind != SPINDLEWREN_IS_FRAME || !has(t, frame, part)) {
+    if (walk[SPINDLEWREN_KIND] == SPINDLEWREN_IS_DONE) return;
+    if (walk[SPINDLEWREN_KIND] != SPINDLEWREN_IS_FRAME) {
+        fill(t);
+        return;
+    }
+    refusal = t->fic ? spindlewren_fic(frame, SPINDLEWREN_FRAME, part, sizeof part) : spindlewren_stream(frame, SPINDLEWREN_FRAME, t->stream, part, sizeof part);
+    t->handed_out = 1;
+    if (refusal != SPINDLEWREN_ACCEPTED) {
         fill(t);
         return;
     }
@@ -49,8 +49,8 @@ void extract(const struct request *asked) {
     struct taking t = {.fic = strcmp(asked->part, "fic") == 0, .fill = asked->fill};
     if (!t.fic) digits(asked->part, &t.stream);
     each_item(asked, NULL, take, &t);
-    if (!t.handed_out) fail(asked->file, "no frame is handed out");
-    if (t.frames == 0) fail(asked->file, t.fic ? "no frame handed out has a FIC" : "no frame handed out has that stream");
+    if (t.frames == 0) fail(asked->file, t.handed_out ? "no frame handed out has that stream" : "no frame is handed out");
+    if (t.fic && t.bytes == 0) fail(asked->file, "no frame handed out has a FIC");
     if (!asked->json) return;
     json_begin(stderr);
     json_number("frames", t.frames);

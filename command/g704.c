@@ -33,7 +33,6 @@ static void out(const struct request *asked) {
     struct sending s = {asked->variant, 0, 0, 0};
     char reason[128];
     each_item(asked, NULL, send, &s);
-    if (s.sent + s.refused == 0) fail(asked->file, "no frame is handed out");
     /* where the output cannot be written beside frames that are not sent, both are told below, and no counts */
     if (asked->json && (s.refused == 0 || all_written())) {
         json_begin(stderr);

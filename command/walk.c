@@ -32,10 +32,11 @@ static void each_of_record(struct record record, uint8_t *walk, teller tell, voi
 
 void each_item(const struct request *asked, const char *heading, teller tell, void *to) {
     uint8_t walk[SPINDLEWREN_WALK];
+    uint8_t refusal;
     struct record record = {NULL, 0};
     if (!is_line(asked->file)) record = map(asked->file);
-    /* the limit was looked at with the words */
-    spindlewren_begin(asked->limit, walk, sizeof walk);
+    refusal = spindlewren_begin(asked->limit, walk, sizeof walk);
+    if (refusal != SPINDLEWREN_ACCEPTED) refuse(asked->file, refusal);
     if (heading != NULL && !asked->json) puts(heading);
     progress_begin(record.len);
     if (is_line(asked->file)) {

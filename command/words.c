@@ -16,7 +16,7 @@ struct option {
 static const struct option options[] = {
     {"--limit", "M", TAKES_LIMIT, offsetof(struct request, limit), "so many lost marks in a row end the lock, 1 to 8; 3 unless given"},
     {"--strict", NULL, TAKES_STRICT, offsetof(struct request, strict), "exit status 3 if anything was lost (list) or did not pass (profile), or no frame is handed out"},
-    {"--fill", NULL, TAKES_FILL, offsetof(struct request, fill), "zero bytes for lost and idle periods and frames without that part"},
+    {"--fill", NULL, TAKES_FILL, offsetof(struct request, fill), "zero bytes for lost and idle periods"},
     {"--sync", "N", TAKES_SYNC, offsetof(struct request, sync), "the frame's sync word: 0 for 07 3A B6, which is taken unless given, or 1 for F8 C5 49"},
     {"--variant", "V", TAKES_WAY, offsetof(struct request, variant), "the information bytes of the line's multiframe: 5592, which is taken unless given, or 5376"},
     {"--html", NULL, TAKES_HTML, offsetof(struct request, html), "a page to look at"},
@@ -91,7 +91,6 @@ static int walks(const struct request *asked, const struct verb *verb) {
 }
 
 void understand(const struct verb *verb, int argc, char **argv, struct request *asked) {
-    uint8_t walk[SPINDLEWREN_WALK], refusal;
     int i = 0;
     asked->files = argv;
     while (i < argc && strcmp(argv[i], "--") != 0) {
@@ -104,8 +103,6 @@ void understand(const struct verb *verb, int argc, char **argv, struct request *
     if (verb->takes & TAKES_PART && asked->part == NULL) wrong_use(verb, "%s needs a file and a stream's number, or fic", verb->name);
     if (asked->count == 0) wrong_use(verb, "%s needs a file", verb->name);
     if (asked->given & TAKES_LIMIT && !walks(asked, verb)) wrong_use(verb, "--limit is a walk's, and none begins here");
-    refusal = spindlewren_begin(asked->limit, walk, sizeof walk);
-    if (refusal != SPINDLEWREN_ACCEPTED) wrong_use(verb, "--limit: %s (refusal %u)", spindlewren_label(refusal), refusal);
     if (asked->sync > 1) wrong_use(verb, "--sync is 0 or 1");
     if (asked->variant != 5592 && asked->variant != 5376) wrong_use(verb, "--variant is 5592 or 5376");
     if (asked->html && asked->json) wrong_use(verb, "a page is not JSON: --html and --json");

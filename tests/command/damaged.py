@@ -168,12 +168,11 @@ def log(items):
     return b"".join(place.to_bytes(8, "big") + bytes((kinds.index(kind), code, 255 if level is None else level)) + bytes(5) for place, kind, code, level, _ in items)
 
 
-# a FIC is None in a lost or idle period and empty in a frame without one: each is filled
 def fics(items):
     out, last = b"", 0
     for item in items:
-        fic = item[4] or bytes(last)
-        out, last = out + fic, len(fic)
+        last = len(item[4]) if item[4] is not None else last
+        out += item[4] if item[4] is not None else bytes(last)
     return out
 
 
