@@ -58,6 +58,7 @@ called seen w l (f ∷ fs) _ h a (SignalCalls.call {w' = w'} {l'} {xs = xs} t c)
     ∙ ap (λ (x : List Handed). x ++ xs) k.item
     ∙ append_assoc (items seen) (giving (shown l' r.item) []) xs
     ∙ ap (λ (x : List Handed). items seen ++ x) (sym (giving_then (shown l' r.item) xs) ∙ ap (λ (x : Option Handed). giving x xs) (sym item))
+called seen w l [] (_ ∷ _) h a x8 = elim x8 [ ]
 
 zeros_accepted : Accepted (replicate 24 0)
 zeros_accepted l h = none_holds (replicate 24 0) l refl h (omega arith) (omega arith)

@@ -1,4 +1,3 @@
-use borrow.Author.Rules.{rules}
 use Rattle.looks.proofs.Tallies.{answer_refused, answer_tests, positive}
 use Rattle.looks.proofs.count.Goals as goal
 

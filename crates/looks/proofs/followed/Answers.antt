@@ -1,6 +1,5 @@
 use mathlib.Core.Bool.{Bool}
 use mathlib.Core.Path.{refl, sym, ap, ◌∙◌}
-use borrow.Author.Rules.{rules}
 use Rattle.walk.specs.Walk.{differ}
 use Rattle.walk.proofs.Stepping.{second_refused, both_stand}
 use Rattle.looks.proofs.followed.Goals as goal

@@ -1,7 +1,6 @@
 use mathlib.Core.Path.{sym, ◌∙◌}
 use native.Mathlib.Omega.{arith}
 use Rattle.looks.proofs.Tallies.{over_end, over_refused, over_last, over_taken, over_both}
-use borrow.Author.Rules.{rules}
 use Rattle.looks.proofs.look_hunting.Goals as goal
 
 pub returns-then-q-n : goal.returns-then-q-n

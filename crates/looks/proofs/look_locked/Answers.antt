@@ -1,7 +1,6 @@
 use mathlib.Core.Path.{sym, ◌∙◌}
 use native.Mathlib.Omega.{arith}
 use Rattle.looks.proofs.Tallies.{lock_frame, lock_null, lock_missed, lock_lost}
-use borrow.Author.Rules.{rules}
 use Rattle.looks.proofs.look_locked.Goals as goal
 
 pub returns-then-refusal-eq0 : goal.returns-then-refusal-eq0

@@ -1,9 +1,7 @@
-use mathlib.Core.Path.{◌≡◌, refl, sym}
-use Prim.Native.Nat.{suc, ◌-◌, ◌≤◌, ◌<◌}
+use mathlib.Core.Path.{refl, sym}
 use native.Mathlib.Omega.{arith}
-use lib.ListN.{length}
 use Rattle.looks.proofs.Bounds.{no_tests}
-use Rattle.looks.proofs.Tallies.{Sofar, begins, ends, adds, few_put}
+use Rattle.looks.proofs.Tallies.{begins, ends, few_put}
 use Rattle.looks.proofs.tests.Goals as goal
 
 pub returns-then-n-lt6144 : goal.returns-then-n-lt6144
@@ -14,7 +12,7 @@ loop-position-init c = (refl, omega arith, omega arith, begins _ _)
 
 pub overflow_add-seen : goal.overflow_add-seen
 overflow_add-seen c =
-    let g = (search rules) in
+    let g = c.well_formed.0 in
     let f = few_put _ _ _ _ c.loop-position.invariant.3 _ c.advance-tally.ensures in
     omega arith
 

@@ -1,9 +1,7 @@
-use mathlib.Core.Path.{◌≡◌, refl, sym}
+use mathlib.Core.Path.{◌≡◌}
 use Prim.Native.Nat.{suc, ◌-◌, ◌≤◌, ◌<◌}
-use native.Mathlib.Omega.{arith}
 use lib.ListN.{length}
-use Rattle.looks.proofs.Bounds.{no_tests}
-use Rattle.looks.proofs.Tallies.{Sofar, begins, ends, adds, few_put}
+use Rattle.looks.proofs.Tallies.{Sofar}
 use Rattle.looks.proofs.tests.Given as goal
 
 abbrev pub invariant-loop-position : goal.invariant-loop-position
