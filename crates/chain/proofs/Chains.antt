@@ -103,6 +103,7 @@ some_called (r ∷ rs) (inr h) = within (called_for r) (worst (map called_for rs
   where
     within : (n m : ℕ) → 2 ≤ m → 2 ≤ max n m
     within n m l = omega arith
+some_called [] x' = elim x' [ ]
 
 module _ (first : List ℕ) (rs : List Relay) (a : Acceptable first) (c : Chain first rs) where
   e : level_in (end_of first rs) ≡ level_due first rs
