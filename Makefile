@@ -6,7 +6,7 @@ RECORD = samples/four.eti
 SECONDS = 600
 SEED = $(shell date +%s)
 # what rt made in their out/ is left aside
-crates = $(shell find crates crates.txt -name out -prune -o -type f -print)
+crates = $(shell find crates crates.txt -name out ! -path "*/proofs/*" -prune -o -type f -print)
 
 run:
 	@[ ! -d "$(RECORD)" ] || { echo "$(RECORD): is a directory" >&2; exit 1; }

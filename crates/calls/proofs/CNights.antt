@@ -20,7 +20,6 @@ use Rattle.walk.specs.declared.State.{State}
 use Rattle.walk.specs.ItemValues.{done_kind, kind_of, place_of}
 use Rattle.walk.specs.Records.{Allowed, start, step_at, calls_at}
 use Rattle.walk.specs.Demand3.{Out, out_of}
-use Rattle.nightlog.specs.declared.Entry.{Entry}
 use Rattle.nightlog.specs.Log.{allowed, allowed_entry, lost_code, record_of, log_of, entries_of, log_refusal_of, writing_refusal_of, WritesEntry}
 use Rattle.nights.specs.Nights.{entry_of, night_entries}
 use Rattle.nights.proofs.Kept.{kept}
