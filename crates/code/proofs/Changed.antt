@@ -106,7 +106,7 @@ pub check_octets : (r : ℕ) (info : List ℕ) → Octets (check_bytes r info)
 unfolding check_bytes
 check_octets r info = remainder_octets (lower r) (replicate r 0) info (zero_octets r)
 
--- with `checked-clean`: a row is clean exactly where its last bytes are the check bytes of the others
+-- with `checked_clean`: a row is clean exactly where its last bytes are the check bytes of the others
 pub only_check : (n : ℕ) (info c : List ℕ) → length c ≡ suc n → length info + suc n ≤ 255 → Octets info → Octets c → is_clean (suc n) (info ++ c) ≡ true → c ≡ check_bytes (suc n) info
 only_check n info c e b o p t =
     let d = check_bytes (suc n) info in

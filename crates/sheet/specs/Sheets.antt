@@ -50,7 +50,7 @@ unfoldable pub fcts_of : List Entry → List ℕ
 fcts_of [] = []
 fcts_of (e ∷ es) = pick (is_frame e) (e.code ∷ fcts_of es) (fcts_of es)
 
--- 499 is twice 250 less one, so that nothing that a byte holds goes below zero; `gap-right` of proofs/Gaps says it without
+-- 499 is twice 250 less one, so that nothing that a byte holds goes below zero; `gap_right` of proofs/Gaps says it without
 abbrev pub gap : ℕ → ℕ → ℕ
 gap a b = (b + 499 - a) % 250
 

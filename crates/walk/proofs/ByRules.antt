@@ -49,7 +49,7 @@ by_item R p Q frame idle lost = go (R.stands p) (R.null p) refl refl
     go false true e d = idle d
     go false false e d = lost e d
 
--- .. of which the proofs use these three, with `frame-keeps`
+-- .. of which the proofs use these three, with `frame_keeps`
 pub stands_keeps : (R : Judged) (p : ℕ) → R.stands p ≡ true → keeps R p ≡ true
 unfolding keeps
 stands_keeps R p e = rw e

@@ -1,5 +1,5 @@
 -- The words of demand 3, of bytes: "whatever damage comes before, of at least four intact frames at the end the third and every later one is handed out;
--- in lock, one item for each period until three in a row are refused", for any reason but 4. The theorems are `demand-3-first` and `demand-3-second` of proofs/OverBytes.
+-- in lock, one item for each period until three in a row are refused", for any reason but 4. The theorems are `demand_3_first` and `demand_3_second` of proofs/OverBytes.
 -- Assumes nothing.
 use Rattle.std.specs.Prelude.{not, List, [], ◌∷◌, ◌⊎◌, ◌≡◌, ℕ, zero, suc, ◌+◌, ◌*◌, ◌≤◌, ◌<◌, eqb, leb, length}
 use Rattle.frame.specs.declared.Stream.{Stream}

@@ -1,5 +1,5 @@
--- What a step's item says of the record, in terms of its bytes, and what the misses mean. `Truth.step-true` of proofs/: the former is so of every step from every state;
--- `Misses.misses-row` and `Misses.misses-items`: the latter is so of every state that a walk from its beginning reaches.
+-- What a step's item says of the record, in terms of its bytes, and what the misses mean. `Truth.step_true` of proofs/: the former is so of every step from every state;
+-- `Misses.misses_row` and `Misses.misses_items`: the latter is so of every state that a walk from its beginning reaches.
 -- Assumes nothing.
 use Rattle.std.specs.Prelude.{true, List, [], ◌∷◌, ◌⊎◌, ◌≡◌, ℕ, suc, ◌+◌, ◌*◌, ◌≤◌, ◌<◌, length}
 use Rattle.frame.specs.declared.Header.{Header}

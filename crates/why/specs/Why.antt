@@ -1,4 +1,4 @@
--- Why was this period not aired: when each reason applies to a place of a record, said of the looks of the walk over it. `Reasons.one-reason` of proofs/: exactly one does.
+-- Why was this period not aired: when each reason applies to a place of a record, said of the looks of the walk over it. `Reasons.one_reason` of proofs/: exactly one does.
 -- Assumes nothing.
 use Rattle.std.specs.Prelude.{Bool, true, false, not, ◌&&◌, ◌⊎◌, ◌≡◌, ℕ, ◌+◌, ◌≤◌, ◌<◌, ltb, length}
 use mathlib.Core.List.{List, [], ◌∷◌, map, Memᴰ}
