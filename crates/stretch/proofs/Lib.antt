@@ -1,2 +1,3 @@
 mod Computed
+pub mod OneTurn
 pub mod Stretching

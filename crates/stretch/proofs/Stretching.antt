@@ -7,7 +7,7 @@ use native.Mathlib.Nat.{le_refl, suc_inj}
 use native.Mathlib.Numerals.{add-one}
 use native.Mathlib.Omega.{arith}
 use lib.Arith.{digits_div, digits_mod}
-use lib.Bits.{bit_xor, xor_zero_r, xor_lt}
+use lib.Bits.{bit_xor}
 use lib.ListN.{length, take, drop, get_or, replicate, length-replicate}
 use lib.Seq.{take-add, take-suc, take_all, drop-drop}
 use Rattle.octets.specs.Words.{split, bytes4}
@@ -44,7 +44,7 @@ after8_xor : (r q : Register) (y z : ℕ) → after8 (r ⊞ q) (bit_xor y z) ≡
 after8_xor r q y z =
     rw (← word_xor r q, load_word (r ⊞ q), load_word r, load_word q) at ((kept8 (loaded (nth 0)) (nth 1)).law (word r ∷ y ∷ []) (word q ∷ z ∷ []))
 
-afters_xor : (r q : Register) (ys zs : List ℕ) → length ys ≡ length zs → afters (r ⊞ q) (xors ys zs) ≡ afters r ys ⊞ afters q zs
+pub afters_xor : (r q : Register) (ys zs : List ℕ) → length ys ≡ length zs → afters (r ⊞ q) (xors ys zs) ≡ afters r ys ⊞ afters q zs
 afters_xor r q [] [] e = refl
 afters_xor r q [] (z ∷ zs) e = absurd (omega arith)
 afters_xor r q (y ∷ ys) [] e = absurd (omega arith)
@@ -54,7 +54,7 @@ xors_zero : (zs : List ℕ) → xors (replicate (length zs) 0) zs ≡ zs
 xors_zero [] = refl
 xors_zero (z ∷ zs) = ap (λ (ys : List ℕ). z ∷ ys) (xors_zero zs)
 
-xor-blank : (r : Register) → r ⊞ blank ≡ r
+pub xor-blank : (r : Register) → r ⊞ blank ≡ r
 unfolding ◌⊞◌ load bit
 xor-blank (stages b0 b1 b2 b3 b4 b5 b6 b7 b8 b9 b10 b11 b12 b13 b14 b15) = simp ⊕-false
 
@@ -69,7 +69,7 @@ begun r w h e =
     ap (λ (q : Register). afters q (0 ∷ 0 ∷ 0 ∷ 0 ∷ [])) (sym (ap load e ∙ load_word r)) ∙ ap (λ (q : Register). afters q (0 ∷ 0 ∷ 0 ∷ [])) (loaded_first w h)
 
 -- the one computed fact: a word, alone, may go, added to those 8, 22 and 32 bytes on
-alone : (q : ℕ) → q < 2 ^ 64 → afters blank (q ∷ 0 ∷ 0 ∷ 0 ∷ 0 ∷ []) ≡ afters blank (q ∷ q / 2 ^ 48 ∷ q * 2 ^ 16 % 2 ^ 64 ∷ q ∷ [])
+pub alone : (q : ℕ) → q < 2 ^ 64 → afters blank (q ∷ 0 ∷ 0 ∷ 0 ∷ 0 ∷ []) ≡ afters blank (q ∷ q / 2 ^ 48 ∷ q * 2 ^ 16 % 2 ^ 64 ∷ q ∷ [])
 unfolding after8 after4 load bit
 alone q h =
     same_word
@@ -77,23 +77,12 @@ alone q h =
     (read (kept8 (kept8 (kept8 (kept8 at_blank (nth 0)) (then (nth 0) (right 48))) (then (nth 0) (left 64 16))) (nth 0)))
     (64 ∷ []) (computed tt) (q ∷ []) (more h none))
 
-blank_on : after8 blank 0 ≡ blank
+pub blank_on : after8 blank 0 ≡ blank
 unfolding after8 after4 load bit
 blank_on = refl
 
--- so it may go before others
-gone : (q b c d : ℕ) → q < 2 ^ 64
-    → afters blank (q ∷ b ∷ c ∷ d ∷ 0 ∷ []) ≡ afters blank (bit_xor b q ∷ bit_xor c (q / 2 ^ 48) ∷ bit_xor d (q * 2 ^ 16 % 2 ^ 64) ∷ q ∷ [])
-gone q b c d h =
-    let apart = afters_xor blank blank (0 ∷ b ∷ c ∷ d ∷ 0 ∷ []) (q ∷ 0 ∷ 0 ∷ 0 ∷ 0 ∷ []) refl in
-    ap (λ (r : Register). afters r (q ∷ b ∷ c ∷ d ∷ 0 ∷ [])) (sym (xor-blank blank))
-    ∙ (rw (xor_zero_r b, xor_zero_r c, xor_zero_r d) at apart)
-    ∙ ap₂ ◌⊞◌ (ap (λ (r : Register). afters r (b ∷ c ∷ d ∷ 0 ∷ [])) blank_on) (alone q h)
-    ∙ sym (afters_xor blank blank (b ∷ c ∷ d ∷ 0 ∷ []) (q ∷ q / 2 ^ 48 ∷ q * 2 ^ 16 % 2 ^ 64 ∷ q ∷ []) refl)
-    ∙ ap (λ (r : Register). afters r (bit_xor b q ∷ bit_xor c (q / 2 ^ 48) ∷ bit_xor d (q * 2 ^ 16 % 2 ^ 64) ∷ q ∷ [])) (xor-blank blank)
-
 -- a register that stands so many words ahead where a blank one stands after xs, and fed ys, is where a blank one is after both, added
-ahead : (r : Register) (xs ys : List ℕ) → afters r (replicate (length ys) 0) ≡ afters blank xs → length xs ≡ length ys → afters r ys ≡ afters blank (xors xs ys)
+pub ahead : (r : Register) (xs ys : List ℕ) → afters r (replicate (length ys) 0) ≡ afters blank xs → length xs ≡ length ys → afters r ys ≡ afters blank (xors xs ys)
 ahead r xs ys h e =
     ap₂ afters (sym (xor-blank r)) (sym (xors_zero ys)) ∙ afters_xor r blank (replicate (length ys) 0) ys (length-replicate (length ys) 0)
     ∙ ap (λ (q : Register). q ⊞ afters blank ys) h ∙ sym (afters_xor blank blank xs ys e) ∙ ap (λ (q : Register). afters q (xors xs ys)) (xor-blank blank)
@@ -103,15 +92,6 @@ pub as_one : (w z : ℕ) → w < 2 ^ 16 → after8 (load w) z ≡ after8 blank (
 as_one w z h = ahead (load w) (w * 2 ^ 48 % 2 ^ 64 ∷ []) (z ∷ []) (loaded_first w h) refl
 
 module _ (r : Register) (s : Stretched) (h : Stands r s) where
-  -- a turn
-  pub turned : (z : ℕ) → s.a < 2 ^ 64 → z < 2 ^ 64
-      → Stands (after8 r z) (record { a = bit_xor s.b (bit_xor s.a z); b = bit_xor s.c (bit_xor s.a z / 2 ^ 48); c = bit_xor s.d (bit_xor s.a z * 2 ^ 16 % 2 ^ 64); d = bit_xor s.a z })
-  turned z i j = record {
-    ahead =
-        ahead r (s.a ∷ s.b ∷ s.c ∷ s.d ∷ 0 ∷ []) (z ∷ 0 ∷ 0 ∷ 0 ∷ 0 ∷ []) (ap (λ (q : Register). after8 q 0) h.ahead) refl
-        ∙ rw (xor_zero_r s.b, xor_zero_r s.c, xor_zero_r s.d) (gone (bit_xor s.a z) s.b s.c s.d (xor_lt 64 s.a z i j));
-  }
-
   -- the end
   pub closed : (x y z u : ℕ) → afters r (x ∷ y ∷ z ∷ u ∷ []) ≡ afters blank (bit_xor s.a x ∷ bit_xor s.b y ∷ bit_xor s.c z ∷ bit_xor s.d u ∷ [])
   closed x y z u = ahead r (s.a ∷ s.b ∷ s.c ∷ s.d ∷ []) (x ∷ y ∷ z ∷ u ∷ []) h.ahead refl

@@ -1,7 +1,7 @@
 -- `stretch::turn` meets its contract, by the law of a word that goes.
 -- Assumes nothing.
 use borrow.Author.Rules.{rules}
-use Rattle.stretch.proofs.Stretching.{turned}
+use Rattle.stretch.proofs.OneTurn.{turned}
 use Rattle.stretch.proofs.turn.Goals as goal
 
 pub returns : goal.returns
