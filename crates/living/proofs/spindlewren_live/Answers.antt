@@ -17,7 +17,8 @@ returns-then-more-gt1 c = told_refused 23 _ _ _ (search rules) 12 (more_wide _ _
 pub returns-then-waits : goal.returns-then-waits
 returns-then-waits c =
     let window = c.args.window.now in
-    told_given 23 _ _ _ (search rules) 0 (both_fit _ _ c.if-walk-gt1.false c.if-more-gt1.false) refl _
+    let fit = both_fit _ _ c.if-walk-gt1.false c.if-more-gt1.false in
+    told_given 23 _ _ _ (search rules) 0 fit refl _
     (waiting_left _ _ _ (search rules) c.put_told.ensures
     ∙ ap held_by (sym (c.waits.ensures c.if-waits.true window refl) ∙ ap (live_at window (eqb c.args.more 1)) c.state_in-state.ensures))
 
