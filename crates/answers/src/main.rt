@@ -3,113 +3,109 @@
 
 use frame::{Header, Stream, Timestamp};
 use std::io;
-use workbench::build::{Given, build, header, plain};
+use workbench::build::{Given, PLAIN};
 use workbench::line;
 
-fn sort(g: Given) -> usize {
-    let h = header(g);
-    let timestamp = h.timestamp;
-    match timestamp {
+fn sort(time: u32) -> u8 {
+    let mut g = PLAIN;
+    g.time = time;
+    match g.header().timestamp {
         Timestamp::Absent => 0,
         Timestamp::Time(_) => 1,
         Timestamp::Reserved(_) => 2,
     }
 }
 
-fn digit(b: bool) -> usize {
-    if b { 1 } else { 0 }
-}
-
 fn numbers(rt: &impl Print, h: Header) -> io::Result<()> {
-    line::plain(rt, b"FSYNC1", digit(h.fsync1), 1)?;
-    line::plain(rt, b"FCT", h.fct as usize, 17)?;
-    line::plain(rt, b"NST", h.nst as usize, 1)?;
-    line::plain(rt, b"FP", h.fp as usize, 5)?;
-    line::plain(rt, b"MID", h.mid as usize, 1)
+    line::plain(rt, "FSYNC1", u8::from(h.fsync1), 1)?;
+    line::plain(rt, "FCT", h.fct, 17)?;
+    line::plain(rt, "NST", h.nst, 1)?;
+    line::plain(rt, "FP", h.fp, 5)?;
+    line::plain(rt, "MID", h.mid, 1)
 }
 
 fn words(rt: &impl Print, h: Header) -> io::Result<()> {
-    line::plain(rt, b"FL", h.fl as usize, 74)?;
-    line::sum(rt, b"MNSC", h.mnsc, 0x1234)?;
-    line::sum(rt, b"Rfu", h.rfu, 0xffff)?;
-    line::plain(rt, b"Rfa", h.rfa as usize, 255)
+    line::plain(rt, "FL", h.fl, 74)?;
+    line::sum(rt, "MNSC", h.mnsc, 0x1234)?;
+    line::sum(rt, "Rfu", h.rfu, 0xffff)?;
+    line::plain(rt, "Rfa", h.rfa, 255)
 }
 
 fn fields(rt: &impl Print) -> io::Result<()> {
-    let mut g = plain();
+    let mut g = PLAIN;
     g.sync = 0xfff8c549;
-    let h = header(g);
+    let h = g.header();
     numbers(rt, h)?;
     words(rt, h)
 }
 
 fn timestamps(rt: &impl Print) -> io::Result<()> {
-    let mut g = plain();
-    line::plain(rt, b"timestamp ffffff, sort", sort(g), 0)?;
-    g.time = 0xfffffe;
-    line::plain(rt, b"timestamp fffffe, sort", sort(g), 2)?;
-    g.time = 0xfa0000;
-    line::plain(rt, b"timestamp fa0000, sort", sort(g), 2)?;
-    g.time = 16383999;
-    line::plain(rt, b"timestamp f9ffff, sort", sort(g), 1)
-}
-
-fn table() -> [Stream; 64] {
-    let mut frame = [0x55u8; 6144];
-    build(&mut frame, plain());
-    let reading = reading::read(&frame);
-    reading.table
+    for (time, expected) in [(0xffffff, 0), (0xfffffe, 2), (0xfa0000, 2), (0xf9ffff, 1)] {
+        line::plain(
+            rt,
+            format_args!("timestamp {time:06x}, sort"),
+            sort(time),
+            expected,
+        )?;
+    }
+    Ok(())
 }
 
 fn entry(rt: &impl Print, s: Stream) -> io::Result<()> {
-    line::plain(rt, b"SCID", s.scid as usize, 1)?;
-    line::plain(rt, b"SAD", s.sad as usize, 54)?;
-    line::plain(rt, b"TPL", s.tpl as usize, 34)?;
-    line::plain(rt, b"STL", s.stl as usize, 24)
+    line::plain(rt, "SCID", s.scid, 1)?;
+    line::plain(rt, "SAD", s.sad, 54)?;
+    line::plain(rt, "TPL", s.tpl, 34)?;
+    line::plain(rt, "STL", s.stl, 24)
 }
 
 fn entries(rt: &impl Print) -> io::Result<()> {
-    let table = table();
+    let table = reading::read(&PLAIN.build()).table;
     entry(rt, table[0])?;
-    let beyond = table[1];
-    line::plain(rt, b"STL beyond the count", beyond.stl as usize, 0)
+    line::plain(rt, "STL beyond the count", table[1].stl, 0)
 }
 
 // The FIC and the first stream of a frame: places and lengths.
-fn parts(rt: &impl Print, given: &[u8], g: Given, fic_len: usize, start: usize) -> io::Result<()> {
-    let mut frame = [0x55u8; 6144];
-    build(&mut frame, g);
-    line::text(rt, given)?;
-    line::plain(rt, b", FIC bytes", parts::fic(&frame).len(), fic_len)?;
-    let place = spans::stream_place(&frame, 0);
-    line::text(rt, given)?;
-    line::plain(rt, b", stream 0 begins at", place.start, start)?;
-    line::text(rt, given)?;
-    line::plain(rt, b", stream 0 bytes", parts::stream(&frame, 0).len(), 192)
-}
-
-fn index(rt: &impl Print, i: usize, expected: usize, len: usize) -> io::Result<()> {
-    let mut frame = [0x55u8; 6144];
-    build(&mut frame, plain());
-    let result = spans::stream_refusal(&frame, i);
-    line::text(rt, b"refusal, stream index ")?;
-    line::number(rt, i)?;
-    line::plain(rt, b"", result as usize, expected)?;
+fn parts(rt: &impl Print, given: &str, g: Given, fic_len: usize, start: usize) -> io::Result<()> {
+    let frame = g.build();
     line::plain(
         rt,
-        b"bytes of its part",
-        parts::stream(&frame, i).len(),
-        len,
+        format_args!("{given}, FIC bytes"),
+        parts::fic(&frame).len(),
+        fic_len,
+    )?;
+    line::plain(
+        rt,
+        format_args!("{given}, stream 0 begins at"),
+        spans::stream_place(&frame, 0).start,
+        start,
+    )?;
+    line::plain(
+        rt,
+        format_args!("{given}, stream 0 bytes"),
+        parts::stream(&frame, 0).len(),
+        192,
     )
 }
 
+fn index(rt: &impl Print, i: usize, expected: u8, len: usize) -> io::Result<()> {
+    let frame = PLAIN.build();
+    let refusal = refusals::outcome(spans::stream_refusal(&frame, i));
+    line::plain(
+        rt,
+        format_args!("refusal, stream index {i}"),
+        refusal,
+        expected,
+    )?;
+    line::plain(rt, "bytes of its part", parts::stream(&frame, i).len(), len)
+}
+
 fn all_parts(rt: &impl Print) -> io::Result<()> {
-    let mut g = plain();
-    parts(rt, b"MID 1", g, 96, 112)?;
+    let mut g = PLAIN;
+    parts(rt, "MID 1", g, 96, 112)?;
     g.mid = 3;
-    parts(rt, b"MID 3", g, 128, 144)?;
+    parts(rt, "MID 3", g, 128, 144)?;
     g.ficf = 0;
-    parts(rt, b"FICF 0", g, 0, 16)
+    parts(rt, "FICF 0", g, 0, 16)
 }
 
 fn main(rt: HostRuntime) -> io::Result<()> {
@@ -119,5 +115,5 @@ fn main(rt: HostRuntime) -> io::Result<()> {
     all_parts(&rt)?;
     index(&rt, 0, 0, 192)?;
     index(&rt, 1, 13, 0)?;
-    index(&rt, 18446744073709551615, 13, 0)
+    index(&rt, usize::MAX, 13, 0)
 }

@@ -1,7 +1,7 @@
 -- Parts that are not refused for a length have the variant's lengths.
 -- Assumes nothing.
-use mathlib.Core.Path.{◌≡◌, refl, ap, ap₂}
-use mathlib.Core.Bool.{Bool, true, false}
+use mathlib.Core.Path.{◌≡◌, refl, ap, ap₂, ◌∙◌}
+use mathlib.Core.Bool.{Bool, true, false, not, ◌&&◌}
 use mathlib.Core.List.{List, [], ◌∷◌}
 use Prim.Native.Nat.{ℕ, ◌-◌, ◌*◌, ◌≤◌}
 use native.Mathlib.Omega.{arith}
@@ -24,6 +24,43 @@ lengths_same (n ∷ ns) (w ∷ ws) e = go (eqb n w) refl e (lengths_same ns ws)
     go : (b : Bool) → eqb n w ≡ b → pick b (length_refusal ns ws) 1 ≡ 0 → (length_refusal ns ws ≡ 0 → ns ≡ ws) → n ∷ ns ≡ w ∷ ws
     go true q z later = ap₂ ◌∷◌ (eqb-true n w q) (later z)
     go false q z later = absurd (one_zero z)
+
+-- the lengths compared, as arrays of them are
+abbrev equal : List ℕ → List ℕ → Bool
+equal [] [] = true
+equal [] (w ∷ ws) = false
+equal (n ∷ ns) [] = false
+equal (n ∷ ns) (w ∷ ws) = eqb n w && equal ns ws
+
+compared : (b : Bool) (ns ws : List ℕ) → b ≡ not (equal ns ws) → pick b 1 0 ≡ length_refusal ns ws
+compared b [] [] e = rw e refl
+compared b [] (w ∷ ws) e = rw e refl
+compared b (n ∷ ns) [] e = rw e refl
+compared b (n ∷ ns) (w ∷ ws) e = go (eqb n w) e (compared b ns ws)
+  where
+    go : (c : Bool) → b ≡ not (c && equal ns ws) → (b ≡ not (equal ns ws) → pick b 1 0 ≡ length_refusal ns ws) → pick b 1 0 ≡ pick c (length_refusal ns ws) 1
+    go true q later = later q
+    go false q later = rw q refl
+
+pub compared_six : (b : Bool) (w o m s g h r : ℕ) → b ≡ not (equal (o ∷ m ∷ s ∷ g ∷ h ∷ r ∷ []) (6144 ∷ 24 ∷ 24 ∷ 192 ∷ 192 ∷ 24 * (240 - w) ∷ [])) → pick b 1 0 ≡ parts_refusal w o m s g h r
+unfolding parts_refusal
+compared_six b w o m s g h r e = compared b (o ∷ m ∷ s ∷ g ∷ h ∷ r ∷ []) (6144 ∷ 24 ∷ 24 ∷ 192 ∷ 192 ∷ 24 * (240 - w) ∷ []) e
+
+-- there is no other refusal of a length
+one_only : (ns ws : List ℕ) → (length_refusal ns ws ≡ 0 → ⊥) → length_refusal ns ws ≡ 1
+one_only [] [] h = absurd (h refl)
+one_only [] (w ∷ ws) h = refl
+one_only (n ∷ ns) [] h = refl
+one_only (n ∷ ns) (w ∷ ws) h = go (eqb n w) h (one_only ns ws)
+  where
+    go : (c : Bool) → (pick c (length_refusal ns ws) 1 ≡ 0 → ⊥) → ((length_refusal ns ws ≡ 0 → ⊥) → length_refusal ns ws ≡ 1) → pick c (length_refusal ns ws) 1 ≡ 1
+    go true k later = later k
+    go false k later = refl
+
+pub one_of_six : (w o m s g h r n : ℕ) → n ≡ parts_refusal w o m s g h r → (n ≡ 0 → ⊥) → n ≡ 1
+unfolding parts_refusal
+one_of_six w o m s g h r n e f =
+    e ∙ one_only (o ∷ m ∷ s ∷ g ∷ h ∷ r ∷ []) (6144 ∷ 24 ∷ 24 ∷ 192 ∷ 192 ∷ 24 * (240 - w) ∷ []) (λ q. f (e ∙ q))
 
 -- what the six lengths are
 pub six : (w o m s g h r k : ℕ) → parts_refusal w o m s g h r ≡ 0 → get_or (o ∷ m ∷ s ∷ g ∷ h ∷ r ∷ []) k 0 ≡ get_or (6144 ∷ 24 ∷ 24 ∷ 192 ∷ 192 ∷ 24 * (240 - w) ∷ []) k 0

@@ -4,18 +4,18 @@
 ghost use Rattle.std.specs.Prelude.{◌≡◌};
 ghost use Rattle.array.specs.CodingArray.{width_of, Wide};
 ghost use Rattle.array.specs.PartLengths.{parts_refusal};
+ghost use Rattle.refusals.specs.Refusals.{outcome_number};
 
-// A row's information width: 226 beside fourteen check bytes, 235 beside five.
+use refusals::Refusal;
+
+// A row's information width: 226 beside fourteen check bytes, 235 beside five. A bool and no enum of the variants: `width_of`, over which all is stated, takes one.
 pub fn width(fourteen: bool) -> usize
     ensures { (result ≡ width_of fourteen) × (Wide result) }
 {
-    if fourteen {
-        return 226;
-    }
-    235
+    if fourteen { 226 } else { 235 }
 }
 
-// 1 where the output array or a part beside the information has not the length that the width calls for, else 0.
+// The lengths one by one, in the order in which `parts_refusal` has them. Refused where the output array or a part beside the information has not the length that the width calls for.
 pub fn lengths(
     fourteen: bool,
     output: usize,
@@ -24,32 +24,19 @@ pub fn lengths(
     synchronising: usize,
     signalling: usize,
     check: usize,
-) -> u8
-    ensures { result ≡ parts_refusal (width_of fourteen) output management supervision synchronising signalling check }
+) -> Result<(), Refusal>
+    ensures { outcome_number result ≡ parts_refusal (width_of fourteen) output management supervision synchronising signalling check }
 {
-    if output != 6144 {
-        return 1;
+    let lent = [
+        output,
+        management,
+        supervision,
+        synchronising,
+        signalling,
+        check,
+    ];
+    if lent != [6144, 24, 24, 192, 192, 24 * (240 - width(fourteen))] {
+        return Err(Refusal::Length);
     }
-    if management != 24 {
-        return 1;
-    }
-    if supervision != 24 {
-        return 1;
-    }
-    if synchronising != 192 {
-        return 1;
-    }
-    if signalling != 192 {
-        return 1;
-    }
-    if fourteen {
-        if check != 336 {
-            return 1;
-        }
-        return 0;
-    }
-    if check != 120 {
-        return 1;
-    }
-    0
+    Ok(())
 }

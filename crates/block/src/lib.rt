@@ -1,7 +1,7 @@
 // A walk's block of 23 bytes at the C boundary: the state in it read, and a state stored with what it told last.
 #![tactic(auto)]
 
-ghost use Rattle.std.specs.Prelude.{[], ◌∷◌, ◌≡◌, ◌≤◌, length};
+ghost use Rattle.std.specs.Prelude.{◌≡◌};
 ghost use Rattle.octets.specs.Stores.{put};
 ghost use Rattle.block.specs.WalkBytes.{told_bytes, step_bytes, state_in};
 
@@ -22,28 +22,7 @@ pub fn state_in(walk: &[u8]) -> State
     }
 }
 
-// Misses, lock and limit, and kind and number of what was told, from byte 8 on.
-fn put_marks(out: &mut [u8], misses: u8, lock: u8, limit: u8, kind: u8, number: u8)
-    requires { 13 ≤ length out.old }
-    ensures { out.new ≡ put out.old 8 (misses ∷ lock ∷ limit ∷ kind ∷ number ∷ []) }
-{
-    out[8] = misses;
-    out[9] = lock;
-    out[10] = limit;
-    out[11] = kind;
-    out[12] = number;
-}
-
-// FCT and level of a frame that was told, from byte 21 on.
-fn put_frame(out: &mut [u8], fct: u8, level: u8)
-    requires { 23 ≤ length out.old }
-    ensures { out.new ≡ put out.old 21 (fct ∷ level ∷ []) }
-{
-    out[21] = fct;
-    out[22] = level;
-}
-
-// The state in eleven bytes, and what it told last in twelve: its kind, number and place, and a frame's FCT and level. They are stored only where there is room for all of them.
+// Kinds and numbers as C has them. The state in eleven bytes, and what it told last in twelve: its kind, number and place, and a frame's FCT and level. They are stored only where there is room for all of them.
 pub fn put_told(out: &mut [u8], walk: State, kind: u8, number: u8, item: usize, fct: u8, level: u8)
     ensures { out.new ≡ put out.old 0 (told_bytes walk kind number item fct level) }
 {
@@ -51,13 +30,13 @@ pub fn put_told(out: &mut [u8], walk: State, kind: u8, number: u8, item: usize, 
         return;
     }
     let position = walk.position;
-    let lock = meaning::bit(position.lock);
     let misses = (position.misses % 256) as u8;
     let limit = (walk.limit % 256) as u8;
+    let lock = u8::from(position.lock);
     putting::put8(out, 0, position.place);
-    put_marks(out, misses, lock, limit, kind, number);
+    putting::put_bytes(out, 8, &[misses, lock, limit, kind, number]);
     putting::put8(out, 13, item);
-    put_frame(out, fct, level);
+    putting::put_bytes(out, 21, &[fct, level]);
 }
 
 // The same of an item.
@@ -66,7 +45,7 @@ pub fn put_item(out: &mut [u8], walk: State, item: Item)
 {
     match item {
         Item::Frame(p, h) => put_told(out, walk, 0, 0, p, h.fct, h.level),
-        Item::Lost(p, n) => put_told(out, walk, 1, n, p, 0, 0),
+        Item::Lost(p, refusal) => put_told(out, walk, 1, refusal.number(), p, 0, 0),
         Item::Idle(p) => put_told(out, walk, 2, 4, p, 0, 0),
         Item::Done(p) => put_told(out, walk, 3, 0, p, 0, 0),
     }

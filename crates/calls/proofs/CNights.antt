@@ -15,6 +15,7 @@ use Rattle.octets.proofs.SplitJoin.{join_split}
 use Rattle.octets.proofs.Storing.{alone}
 use Rattle.frame.specs.declared.Stream.{Stream}
 use Rattle.walk.specs.declared.Item.{Item}
+use Rattle.refusals.specs.Refusals.{refusal_number}
 use Rattle.walk.specs.declared.Item.TheVariants.{Frame, Lost, Idle, Done}
 use Rattle.walk.specs.declared.State.{State}
 use Rattle.walk.specs.ItemValues.{done_kind, kind_of, place_of}
@@ -48,9 +49,10 @@ entry_seen (Frame p h) table l ok =
     let d = alone h.level (omega (arith, leb-true h.level 3 level)) in
     λ i. record { place = a i; kind = 0; code = c i; level = d i }
 entry_seen (Lost p n) table l ok =
-    let (few, rest) = both (leb 2 n) _ ok in
+    let number = refusal_number n in
+    let (few, rest) = both (leb 2 number) _ ok in
     let a = join_split bytes8 p l in
-    let c = alone n (omega (arith, leb-true n 10 (both (leb n 10) _ rest).0)) in
+    let c = alone number (omega (arith, leb-true number 10 (both (leb number 10) _ rest).0)) in
     λ i. record { place = a i; kind = 1; code = c i; level = 0xFF }
 entry_seen (Idle p) table l ok = let a = join_split bytes8 p l in λ i. record { place = a i; kind = 2; code = 4; level = 0xFF }
 entry_seen (Done p) table l ok = clash (sym ok)

@@ -1,28 +1,42 @@
 -- The turns of the code's loops.
 -- Assumes nothing.
 use mathlib.Core.Path.{◌≡◌, refl, sym, ◌∙◌}
-use mathlib.Core.Bool.{Bool, true, false, ◌&&◌}
+use mathlib.Core.Bool.{Bool, true, false}
+use mathlib.Core.Logic.{⊎_elim, ◌⊎◌}
+use native.Mathlib.Nat.{eq-or-lt_of_le, le_of_suc-le-suc}
+use native.Mathlib.Omega.{arith}
 use mathlib.Core.List.{List, [], ◌∷◌, ◌++◌}
-use Prim.Native.Nat.{ℕ, ◌+◌, ◌<◌}
+use Prim.Native.Nat.{ℕ, zero, suc, ◌+◌, ◌<◌, ◌≤◌}
 use native.Mathlib.Numerals.{add-one}
-use borrow.Author.Tests.{eq-eqb, ne_eqb}
+use borrow.Author.Tests.{ne_eqb, eqb-true}
 use lib.Bits.{bit_xor}
 use lib.Dec.{eqb}
 use lib.ListN.{length, get_or, take, replicate}
 use lib.Seq.{take-suc}
 use Rattle.octets.specs.Choice.{pick}
+use Rattle.std.specs.List.{fold}
 use Rattle.field.specs.Field.{times}
-use Rattle.code.specs.Code.{value_at, root, is_clean, lower, divide, remainder, check_bytes}
+use Rattle.std.proofs.Common.{Ok, Err}
+use Rattle.refusals.specs.declared.Refusal.TheVariants.{Length}
 use Rattle.code.specs.CodeAnswers.{check_refusal, Checks, row_refusal, Tests}
-use Rattle.code.specs.declared.TestedRow.{TestedRow}
-use Rattle.code.proofs.CleanRows.{horner_append}
+use Rattle.code.specs.Code.{horner, value_at, root, is_clean, lower, divide, remainder, check_bytes}
 
-pub value_more : (z i v t : ℕ) (row : List ℕ) → i < length row → v ≡ value_at z (take i row) → t ≡ times v z → bit_xor t (get_or row i 0) ≡ value_at z (take (i + 1) row)
-value_more z i v t row h e f = rw (add-one, take-suc row i 0, horner_append z 0 (take i row) (get_or row i 0 ∷ []), f, e)
+pub by_fold : (z v : ℕ) (row : List ℕ) → fold (λ v b. bit_xor (times v z) b) v row ≡ horner z v row
+by_fold z v [] = refl
+by_fold z v (b ∷ row) = by_fold z (bit_xor (times v z) b) row
 
 -- ---- the tests of the roots, one more
-pub test_more : (z v i : ℕ) (found : Bool) (row : List ℕ) → found ≡ is_clean i row → z ≡ root i → v ≡ value_at z row → found && eqb v 0 ≡ is_clean (i + 1) row
-test_more z v i found row e f g = rw (add-one, e, g, f)
+pub test_more : (z v i : ℕ) (row : List ℕ) → is_clean i row ≡ true → z ≡ root i → v ≡ value_at z row → eqb v 0 ≡ is_clean (i + 1) row
+test_more z v i row e f g = rw (add-one, e, g, f)
+
+-- a test that fails decides
+pub not_clean : (i n : ℕ) (row : List ℕ) → i ≤ n → is_clean i row ≡ false → is_clean n row ≡ false
+not_clean i n row h e = go n h
+  where
+    go : (n : ℕ) → i ≤ n → is_clean n row ≡ false
+    go zero h = let z : i ≡ 0 = omega arith in rw z at e
+    go (suc n) h =
+        ⊎_elim (λ (q : i ≡ suc n). rw q at e) (λ (l : i < suc n). rw (go n (le_of_suc-le-suc l)) refl) (eq-or-lt_of_le h)
 
 -- ---- the coefficients of the information, one more
 pub remainder_snoc : (g rest xs : List ℕ) (x : ℕ) → remainder g rest (xs ++ (x ∷ [])) ≡ divide g (remainder g rest xs) x
@@ -36,59 +50,38 @@ pub by_generator : (r : ℕ) (g info : List ℕ) → lower r ≡ g → remainder
 unfolding check_bytes
 by_generator r g info e = rw e
 
--- ---- the answer
+-- ---- the answers
+module _ (l r : ℕ) where
+  pub none_taken : (l ≡ 235 → r ≡ 5 → ⊥) → (l ≡ 226 → r ≡ 14 → ⊥) → check_refusal l r ≡ 1
+  unfolding check_refusal
+  none_taken h k = go (eqb r 5) refl (eqb r 14) refl
+    where
+      go : (b : Bool) → eqb r 5 ≡ b → (c : Bool) → eqb r 14 ≡ c → ◌≡◌ {A = ℕ} (pick b (pick (eqb l 235) 0 1) (pick c (pick (eqb l 226) 0 1) 1)) 1
+      go true e c f = rw (ne_eqb l 235 (λ q. h q (eqb-true r 5 e))) refl
+      go false e true f = rw (ne_eqb l 226 (λ q. k q (eqb-true r 14 f))) refl
+      go false e false f = refl
+
+  pub no_row : (l ≡ 240 → (r ≡ 5 → ⊥) × (r ≡ 14 → ⊥)) → row_refusal l r ≡ 1
+  unfolding row_refusal
+  no_row h = go (eqb l 240) refl
+    where
+      go : (b : Bool) → eqb l 240 ≡ b → ◌≡◌ {A = ℕ} (pick b (pick (eqb r 5) 0 (pick (eqb r 14) 0 1)) 1) 1
+      go true e = let k = h (eqb-true l 240 e) in rw (ne_eqb r 5 k.0, ne_eqb r 14 k.1) refl
+      go false e = refl
+
 pub kept : (info out : List ℕ) → check_refusal (length info) (length out) ≡ 1 → Checks info out out 1
 kept info out e = record { number = sym e; bytes = refl }
 
 pub given : (r : ℕ) (info out after : List ℕ) → length out ≡ r → check_refusal (length info) r ≡ 0 → after ≡ check_bytes r info → Checks info out after 0
 given r info out after e f g = record { number = sym (rw e f); bytes = rw e g }
 
-module _ (l r : ℕ) where
-  pub no_number : (r ≡ 5 → ⊥) → (r ≡ 14 → ⊥) → check_refusal l r ≡ 1
-  unfolding check_refusal
-  no_number h k = rw (ne_eqb r 5 h, ne_eqb r 14 k)
+pub row_kept : (row : List ℕ) (check : ℕ) → (length row ≡ 240 → (check ≡ 5 → ⊥) × (check ≡ 14 → ⊥)) → Tests row check (Err Length)
+row_kept row check h = record { number = sym (no_row (length row) check h); told = tt }
 
-  pub not_235 : r ≡ 5 → (l ≡ 235 → ⊥) → check_refusal l r ≡ 1
-  unfolding check_refusal
-  not_235 h k = rw (eq-eqb r 5 h, ne_eqb l 235 k)
-
-  pub not_226 : r ≡ 14 → (l ≡ 226 → ⊥) → check_refusal l r ≡ 1
-  unfolding check_refusal
-  not_226 h k = rw (h, ne_eqb l 226 k)
-
-pub is_235 : (l : ℕ) → l ≡ 235 → check_refusal l 5 ≡ 0
-unfolding check_refusal
-is_235 l h = rw (eq-eqb l 235 h)
-
-pub is_226 : (l : ℕ) → l ≡ 226 → check_refusal l 14 ≡ 0
-unfolding check_refusal
-is_226 l h = rw (eq-eqb l 226 h)
-
--- ---- a row's test
-module _ (row : List ℕ) (check : ℕ) (t : TestedRow) where
-  pub row_refused : row_refusal (length row) check ≡ 1 → t.refusal ≡ 1 → t.clean ≡ false → Tests row check t
-  row_refused e f g = record { number = f ∙ sym e; told = rw f g }
-
-  pub row_tested : (r : ℕ) → row_refusal (length row) check ≡ 0 → check ≡ r → t.refusal ≡ 0 → t.clean ≡ is_clean r row → Tests row check t
-  row_tested r e q f g = record { number = f ∙ sym e; told = rw (f, q) g }
-
-module _ (l r : ℕ) where
-  pub not_240 : (l ≡ 240 → ⊥) → row_refusal l r ≡ 1
-  unfolding row_refusal
-  not_240 h = rw (ne_eqb l 240 h)
-
-  pub no_check : (r ≡ 5 → ⊥) → (r ≡ 14 → ⊥) → row_refusal l r ≡ 1
-  unfolding row_refusal
-  no_check h k = rw (ne_eqb r 5 h, ne_eqb r 14 k) (always (eqb l 240))
-    where
-      always : (b : Bool) → pick {A = ℕ} b 1 1 ≡ 1
-      always true = refl
-      always false = refl
-
-  pub is_five : l ≡ 240 → r ≡ 5 → row_refusal l r ≡ 0
-  unfolding row_refusal
-  is_five h k = rw (h, k)
-
-  pub is_fourteen : l ≡ 240 → r ≡ 14 → row_refusal l r ≡ 0
-  unfolding row_refusal
-  is_fourteen h k = rw (h, k)
+pub row_told : (row : List ℕ) (check : ℕ) (clean : Bool) → length row ≡ 240 → (check ≡ 5) ⊎ (check ≡ 14) → clean ≡ is_clean check row → Tests row check (Ok clean)
+unfolding row_refusal
+row_told row check clean e h f =
+    record {
+      number = ⊎_elim (λ (q : check ≡ 5). rw (e, q) refl) (λ (q : check ≡ 14). rw (e, q) refl) h;
+      told = f;
+    }

@@ -1,8 +1,9 @@
 -- T-05: what is answered about check bytes and rows. A part of the wrong length is refused with 1.
 -- Assumes nothing.
-use Rattle.std.specs.Prelude.{false, List, ◌≡◌, ℕ, eqb, length}
+use Rattle.std.specs.Prelude.{Bool, List, Result, ◌≡◌, ℕ, eqb, length, IfOk}
 use Rattle.octets.specs.Choice.{pick}
-use Rattle.code.specs.declared.TestedRow.{TestedRow}
+use Rattle.refusals.specs.declared.Refusal.{Refusal}
+use Rattle.refusals.specs.Refusals.{outcome_number}
 use Rattle.code.specs.Code.{is_clean, check_bytes}
 
 -- five check bytes for 235 bytes, or fourteen for 226
@@ -20,7 +21,7 @@ pub record Checks (info before after : List ℕ) (n : ℕ) : Type 0 where
 unfoldable pub row_refusal : ℕ → ℕ → ℕ
 row_refusal row check = pick (eqb row 240) (pick (eqb check 5) 0 (pick (eqb check 14) 0 1)) 1
 
--- the number, and whether the row is clean, which a refused one is not called
-pub record Tests (row : List ℕ) (check : ℕ) (t : TestedRow) : Type 0 where
-  pub number : t.refusal ≡ row_refusal (length row) check
-  pub told : t.clean ≡ pick (eqb t.refusal 0) (is_clean check row) false
+-- the number, and, of a row that is not refused, whether it is clean
+pub record Tests (row : List ℕ) (check : ℕ) (t : Result Bool Refusal) : Type 0 where
+  pub number : outcome_number t ≡ row_refusal (length row) check
+  pub told : IfOk t (λ clean. clean ≡ is_clean check row)

@@ -1,28 +1,22 @@
 -- Nothing in this file need be believed: clauses between private functions.
 -- Assumes nothing.
-use Rattle.std.specs.Prelude.{List, [], ◌∷◌, ◌++◌, ℕ}
-use Rattle.octets.specs.Words.{split, bytes8}
-use Rattle.code.specs.declared.Registers.{Registers}
+use Rattle.std.specs.Prelude.{List, [], ◌∷◌, map, ◌≡◌, ℕ, zero, suc, ◌^◌, ◌<◌, length, get_or}
+use Rattle.std.specs.Int.{bytes_high_first}
+use Rattle.std.specs.Int.Bits.{bit_xor}
+use Rattle.field.specs.Field.{bit, scale, times}
 
-abbrev pub bytes5 : List ℕ
-bytes5 = 8 ∷ 8 ∷ 8 ∷ 8 ∷ 8 ∷ []
+-- the exclusive or of the first n numbers, each by a bit of f
+abbrev pub by_bits : List ℕ → ℕ → ℕ → ℕ
+by_bits t zero f = 0
+by_bits t (suc n) f = bit_xor (by_bits t n f) (scale (bit f n) (get_or t n 0))
 
-abbrev pub bytes6 : List ℕ
-bytes6 = 8 ∷ 8 ∷ 8 ∷ 8 ∷ 8 ∷ 8 ∷ []
+-- the bytes of that are f times these coefficients, whatever the byte f
+abbrev pub Multiplies : List ℕ → List ℕ → Type 0
+Multiplies t g = (f : ℕ) → f < 2 ^ 8 → bytes_high_first (length g) (by_bits t 8 f) ≡ map (times f) g
 
 -- the generators' coefficients below the first, highest power first
 abbrev pub five : List ℕ
 five = 28 ∷ 37 ∷ 49 ∷ 164 ∷ 6 ∷ []
 
-abbrev pub first_six : List ℕ
-first_six = 183 ∷ 27 ∷ 95 ∷ 114 ∷ 67 ∷ 203 ∷ []
-
-abbrev pub last_eight : List ℕ
-last_eight = 249 ∷ 83 ∷ 190 ∷ 214 ∷ 61 ∷ 49 ∷ 114 ∷ 102 ∷ []
-
 abbrev pub fourteen : List ℕ
-fourteen = first_six ++ last_eight
-
--- the fourteen bytes in two registers
-abbrev pub held14 : Registers → List ℕ
-held14 r = split bytes6 r.high ++ split bytes8 r.low
+fourteen = 183 ∷ 27 ∷ 95 ∷ 114 ∷ 67 ∷ 203 ∷ 249 ∷ 83 ∷ 190 ∷ 214 ∷ 61 ∷ 49 ∷ 114 ∷ 102 ∷ []

@@ -9,7 +9,7 @@ use native.Mathlib.Omega.{arith}
 use borrow.Author.Tests.{lt-ltb, le-ltb}
 use lib.Dec.{ltb}
 use Rattle.places.specs.declared.Place.{Place}
-use Rattle.collision.specs.Collisions.{seek, seek_to, one_to, later_to, earlier_to, pair_to, place_at}
+use Rattle.collision.specs.Collisions.{seek, seek_to, later_to, earlier_to, pair_to, place_at}
 
 -- ---- a turn: it holds here, it does not, nothing is left
 module _ (t : ℕ → Bool) (a n : ℕ) where
@@ -49,19 +49,13 @@ of_two t f m j = t (place_at f m) (place_at f j)
 abbrev pub has_later : (Place → Place → Bool) → List ℕ → ℕ → ℕ → Bool
 has_later t f n i = ltb (later_to t f n i) n
 
-pub one_begins : (t : Place → Bool) (f : List ℕ) (n : ℕ) → Sought (of_one t f) 0 n (one_to t f n)
-unfolding one_to
-one_begins t f n = (omega arith, refl)
+pub one_told : (t : Place → Bool) (f : List ℕ) (i k : ℕ) (p : Place) (r b : Bool) → p ≡ place_at f k → k ≡ i → r ≡ t p → r ≡ b → of_one t f i ≡ b
+one_told t f i k p r b e z q d = sym (ap t (e ∙ ap (place_at f) z)) ∙ sym q ∙ d
 
-pub one_told : (t : Place → Bool) (f : List ℕ) (i : ℕ) (p : Place) (r b : Bool) → p ≡ place_at f i → r ≡ t p → r ≡ b → of_one t f i ≡ b
-one_told t f i p r b e q d = ap t (sym e) ∙ sym q ∙ d
-
-pub later_begins : (t : Place → Place → Bool) (f : List ℕ) (n i : ℕ) → i < n → Sought (of_two t f i) (i + 1) n (later_to t f n i)
+-- what stands behind stream i, looked for with its place at hand
+pub later_told : (t : Place → Place → Bool) (f : List ℕ) (n i j k : ℕ) (m : Place) → m ≡ place_at f k → k ≡ i → j ≡ seek_to (λ (a : ℕ). t m (place_at f a)) (i + 1) n → j ≡ later_to t f n i
 unfolding later_to
-later_begins t f n i h = (omega arith, refl)
-
-pub two_told : (t : Place → Place → Bool) (f : List ℕ) (m j : ℕ) (p q : Place) (r b : Bool) → p ≡ place_at f m → q ≡ place_at f j → r ≡ t p q → r ≡ b → of_two t f m j ≡ b
-two_told t f m j p q r b e d k z = rw (← e, ← d, ← k) z
+later_told t f n i j k m e q d = d ∙ ap (λ (p : Place). seek_to (λ (a : ℕ). t p (place_at f a)) (i + 1) n) (e ∙ ap (place_at f) q)
 
 pub pair_begins : (t : Place → Place → Bool) (f : List ℕ) (n : ℕ) → Sought (has_later t f n) 0 n (earlier_to t f n)
 unfolding earlier_to

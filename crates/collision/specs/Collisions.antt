@@ -1,10 +1,11 @@
 -- Which streams the profile's number is about: the first one or the first two, in table order.
 -- Assumes nothing.
-use Rattle.std.specs.Prelude.{Bool, true, false, List, ◌≡◌, ℕ, zero, suc, ◌+◌, ◌-◌, ◌<◌, eqb, ltb}
+use Rattle.std.specs.Prelude.{Bool, true, false, List, Result, Ok, Err, ◌≡◌, ℕ, zero, suc, ◌+◌, ◌-◌, ◌<◌, eqb, ltb}
 use Rattle.octets.specs.Choice.{pick}
 use Rattle.frame.specs.Frame.{nst_of, stream_of}
 use Rattle.places.specs.declared.Place.{Place}
 use Rattle.places.specs.Places.{place_of, same_scid, unsized, beyond, meets, profile_of}
+use Rattle.refusals.specs.Refusals.{refusal_number}
 use Rattle.collision.specs.declared.Collision.{Collision}
 use Rattle.collision.specs.declared.Two.{Two}
 
@@ -50,9 +51,18 @@ two_by number f n =
 abbrev pub two_of : List ℕ → Two
 two_of f = two_by (profile_of f) f (nst_of f)
 
-pub record FindsStreams (f : List ℕ) (r : Collision) : Type 0 where
-  pub number : r.number ≡ profile_of f
-  pub two : r.two ≡ two_of f
+-- the number and the streams of an outcome: 0, and 0 and 0, where nothing is refused
+abbrev pub number_in : {A : Type 0} → Result A Collision → ℕ
+number_in (Ok x) = 0
+number_in (Err c) = refusal_number c.refusal
+
+abbrev pub two_in : {A : Type 0} → Result A Collision → Two
+two_in (Ok x) = record { first = 0; second = 0 }
+two_in (Err c) = c.two
+
+pub record FindsStreams {A : Type 0} (f : List ℕ) (r : Result A Collision) : Type 0 where
+  pub number : number_in r ≡ profile_of f
+  pub two : two_in r ≡ two_of f
 
 -- ---- the meaning, apart from the way it is worked out
 -- t holds of stream i, and of none before it

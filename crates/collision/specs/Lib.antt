@@ -1,2 +1,1 @@
 pub mod Collisions
-pub mod CollisionClauses

@@ -1,11 +1,13 @@
-// Which streams the profile's number is about: the first one or the first two, in table order.
+// Which streams the profile's refusal is about: the first one or the first two, in table order.
 #![tactic(auto)]
 
-ghost use Rattle.std.specs.Prelude.{◌≡◌, ◌<◌};
-ghost use Rattle.collision.specs.Collisions.{one_to, later_to, alone_to, pair_to, two_by, FindsStreams};
-ghost use Rattle.collision.specs.CollisionClauses.{one_by, both_by};
+ghost use Rattle.std.specs.Prelude.{Bool, ◌≡◌, ℕ, ◌≤◌};
+ghost use Rattle.places.specs.declared.Place.{Place};
+ghost use Rattle.refusals.specs.Refusals.{refusal_number};
+ghost use Rattle.collision.specs.Collisions.{place_at, seek_to, alone_to, pair_to, two_by, FindsStreams};
 
 use places::Place;
+use refusals::Refusal;
 
 // Two streams of the table, or one twice.
 #[derive(Clone, Copy)]
@@ -14,76 +16,52 @@ pub struct Two {
     pub second: u8,
 }
 
-// The profile's number, and the streams that it is about, 0 and 0 unless it is 30 to 33.
+// What the profile refuses, and the streams that it is about; 0 and 0, as `two_by` has it, where it is about the whole frame.
 #[derive(Clone, Copy)]
 pub struct Collision {
-    pub number: u8,
+    pub refusal: Refusal,
     pub two: Two,
 }
 
-// What 31 and 32 say of one stream: its protection has no size, or it has a unit beyond 863.
-fn of_one(number: u8, p: Place) -> bool
-    ensures { result ≡ one_by number p }
+// The first stream of those from `from` up to n that passes the test; n, and no Option, where none does: `seek_to` and what is stated by it say n.
+fn first_from<F: Fn(Place) -> bool>(frame: &[u8], from: u8, n: u8, test: F) -> u8
+    requires callable { F.IsAlwaysCallable test }
+    requires room { from ≤ n }
+    ensures { (t : Place → Bool) → ((p : Place) (r : Bool) → F.post test p r → r ≡ t p) → result ≡ seek_to (λ (i : ℕ). t (place_at frame.now i)) from n }
 {
-    if number == 31 {
-        return places::is_unsized(p);
-    }
-    places::is_beyond(p)
-}
-
-// What 30 and 33 say of two: they have one SCID, or a unit in common.
-fn of_two(number: u8, a: Place, b: Place) -> bool
-    ensures { result ≡ both_by number a b }
-{
-    if number == 30 {
-        return places::same(a, b);
-    }
-    places::meet(a, b)
-}
-
-// The first stream that the number is about.
-fn one_by(frame: &[u8], number: u8, n: u8) -> u8
-    ensures { result ≡ one_to (one_by number) frame.now n }
-{
-    let mut i: u8 = 0;
-    while i < n {
-        if of_one(number, places::placed(frame, i as usize)) {
+    for i in from..n {
+        if test(places::placed(frame, usize::from(i))) {
             return i;
         }
-        i += 1;
     }
     n
 }
 
-// The first stream behind stream i that the number is about with it.
-fn later_by(frame: &[u8], number: u8, i: u8, n: u8) -> u8
-    requires { i < n }
-    ensures { result ≡ later_to (both_by number) frame.now n i }
+fn alone<F: Fn(Place) -> bool>(frame: &[u8], n: u8, test: F) -> Two
+    requires { F.IsAlwaysCallable test }
+    ensures { (t : Place → Bool) → ((p : Place) (r : Bool) → F.post test p r → r ≡ t p) → result ≡ alone_to t frame.now n }
 {
-    let mine = places::placed(frame, i as usize);
-    let mut j = i + 1;
-    while j < n {
-        if of_two(number, mine, places::placed(frame, j as usize)) {
-            return j;
-        }
-        j += 1;
+    let i = first_from(frame, 0, n, test);
+    Two {
+        first: i,
+        second: i,
     }
-    n
 }
 
-fn pair_by(frame: &[u8], number: u8, n: u8) -> Two
-    ensures { result ≡ pair_to (both_by number) frame.now n }
+// The first stream that has one behind it with which it passes the test, and the first such one.
+fn pair<F: Fn(Place, Place) -> bool>(frame: &[u8], n: u8, test: F) -> Two
+    requires { F.IsAlwaysCallable test }
+    ensures { (t : Place → Place → Bool) → ((p q : Place) (r : Bool) → F.post test p q r → r ≡ t p q) → result ≡ pair_to t frame.now n }
 {
-    let mut i: u8 = 0;
-    while i < n {
-        let j = later_by(frame, number, i, n);
+    for i in 0..n {
+        let mine = places::placed(frame, usize::from(i));
+        let j = first_from(frame, i + 1, n, |other| test(mine, other));
         if j < n {
             return Two {
                 first: i,
                 second: j,
             };
         }
-        i += 1;
     }
     Two {
         first: n,
@@ -91,45 +69,32 @@ fn pair_by(frame: &[u8], number: u8, n: u8) -> Two
     }
 }
 
-fn alone_by(frame: &[u8], number: u8, n: u8) -> Two
-    ensures { result ≡ alone_to (one_by number) frame.now n }
+// The streams that a refusal is about, of the first n.
+fn two_by(frame: &[u8], refusal: Refusal, n: u8) -> Two
+    ensures { result ≡ two_by (refusal_number refusal) frame.now n }
 {
-    let i = one_by(frame, number, n);
-    Two {
-        first: i,
-        second: i,
+    match refusal {
+        Refusal::EqualScids => pair(frame, n, places::same),
+        Refusal::NoSize => alone(frame, n, places::is_unsized),
+        Refusal::Beyond => alone(frame, n, places::is_beyond),
+        Refusal::Overlap => pair(frame, n, places::meet),
+        _ => Two {
+            first: 0,
+            second: 0,
+        },
     }
 }
 
-fn two_by(frame: &[u8], number: u8, n: u8) -> Two
-    ensures { result ≡ two_by number frame.now n }
-{
-    if number == 30 {
-        return pair_by(frame, number, n);
-    }
-    if number == 31 {
-        return alone_by(frame, number, n);
-    }
-    if number == 32 {
-        return alone_by(frame, number, n);
-    }
-    if number == 33 {
-        return pair_by(frame, number, n);
-    }
-    Two {
-        first: 0,
-        second: 0,
-    }
-}
-
-// The number of the bytes lent, and the streams that it is about.
-pub fn find(frame: &[u8]) -> Collision
+// The profile's outcome, a refusal with the streams that it is about.
+pub fn find(frame: &[u8]) -> Result<(), Collision>
     ensures { FindsStreams frame.now result }
 {
-    let number = profile::judge(frame);
     let fc = fields::fc(frame);
-    Collision {
-        number,
-        two: two_by(frame, number, fc.nst),
+    match profile::judge(frame) {
+        Ok(()) => Ok(()),
+        Err(refusal) => Err(Collision {
+            refusal,
+            two: two_by(frame, refusal, fc.nst),
+        }),
     }
 }

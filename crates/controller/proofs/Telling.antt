@@ -7,7 +7,9 @@ use borrow.Author.Tests.{eq-eqb, ne_eqb}
 use lib.Dec.{eqb}
 use lib.ListN.{length}
 use Rattle.octets.specs.Choice.{pick}
-use Rattle.frame.specs.declared.Answer.TheVariants.{Accepted, Refused}
+use Rattle.std.specs.Prelude.{Ok, Err}
+use Rattle.refusals.specs.declared.Refusal.{Refusal}
+use Rattle.refusals.specs.Refusals.{refusal_number}
 use Rattle.frame.specs.declared.Header.{Header}
 use Rattle.frame.specs.declared.Reading.{Reading}
 use Rattle.frame.specs.Rules.{refusal_of}
@@ -37,10 +39,10 @@ module _ (n refusal : ℕ) (bytes was : List ℕ) where
 
 -- ---- reading
 module _ (f was : List ℕ) (whole : length was ≡ 406) (r : Reading) (reads : Reads f r) where
-  pub refused : (n : ℕ) → r.answer ≡ Refused n → Told 406 (refusal_of f) (answer_of f) was was n
-  refused n e = told_refused 406 (refusal_of f) (answer_of f) was whole n (got_refused f r reads n e) (got_nonzero f r reads n e)
+  pub refused : (n : Refusal) → r.answer ≡ Err n → Told 406 (refusal_of f) (answer_of f) was was (refusal_number n)
+  refused n e = told_refused 406 (refusal_of f) (answer_of f) was whole (refusal_number n) (got_refused f r reads n e) (got_nonzero f r reads n e)
 
-  pub accepted : (h : Header) → r.answer ≡ Accepted h → (left : List ℕ) → left ≡ pick (eqb (length was) 406) (encode head_counts (header_values h) ++ table_bytes r.table) was → Told 406 (refusal_of f) (answer_of f) was left 0
+  pub accepted : (h : Header) → r.answer ≡ Ok h → (left : List ℕ) → left ≡ pick (eqb (length was) 406) (encode head_counts (header_values h) ++ table_bytes r.table) was → Told 406 (refusal_of f) (answer_of f) was left 0
   unfolding answer_of
   accepted h e left p =
       let z = got_number f r reads h e in

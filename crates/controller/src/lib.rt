@@ -1,12 +1,14 @@
-// The reading for the transmitter's controller, on numbers and byte slices.
+// The reading for the transmitter's controller, on numbers and byte slices: refusals are told by their numbers, since C has no Result.
 #![tactic(auto)]
 
-ghost use Rattle.std.specs.Prelude.{◌≡◌, length};
+ghost use Rattle.std.specs.Prelude.{◌≡◌};
 ghost use Rattle.frame.specs.Rules.{refusal_of, stream_refusal_of, fic_part, stream_part};
 ghost use Rattle.encoded.specs.AnswerBytes.{answer_of};
+ghost use Rattle.refusals.specs.Refusals.{outcome_number};
 ghost use Rattle.controller.specs.Boundary.{part_bytes, Told};
 
-use frame::{Answer, Span};
+use frame::Span;
+use refusals::Refusal;
 
 // The refusal number, 0 for accepted; then the answer bytes hold the header and the table. Refused, not one is written.
 #[unsafe(no_mangle)]
@@ -14,31 +16,42 @@ pub extern "C" fn spindlewren_read(frame: &[u8], answer: &mut [u8]) -> u8
     ensures { Told 406 (refusal_of frame.now) (answer_of frame.now) answer.old answer.new result }
 {
     if answer.len() != 406 {
-        return 1;
+        return Refusal::Length.number();
     }
     let reading = reading::read(frame);
-    let told = reading.answer;
-    let table = reading.table;
-    match told {
-        Answer::Accepted(h) => {
-            encoded::put_answer(answer, h, table);
+    match reading.answer {
+        Ok(header) => {
+            encoded::put_answer(answer, header, reading.table);
             0
         }
-        Answer::Refused(n) => n,
+        Err(refusal) => refusal.number(),
     }
 }
 
 // Where a part of a frame begins and how many bytes it has, in two bytes each.
-fn put_part(out: &mut [u8], part: Span)
-    requires { length out.old ≡ 4 }
-    ensures { out.new ≡ part_bytes part }
+#[tactic(auto, unfolding(crate::specs::Boundary::part_bytes))]
+fn in_bytes(part: Span) -> [u8; 4]
+    ensures { result ≡ part_bytes part }
 {
-    let start = part.start;
-    let len = part.len;
-    out[0] = (start / 256 % 256) as u8;
-    out[1] = (start % 256) as u8;
-    out[2] = (len / 256 % 256) as u8;
-    out[3] = (len % 256) as u8;
+    let start = part.start.to_be_bytes();
+    let len = part.len.to_be_bytes();
+    [start[6], start[7], len[6], len[7]]
+}
+
+// What an export answers to a request for a part; granted, the answer bytes hold the part's place and length.
+fn tell_part(answer: &mut [u8], request: Result<(), Refusal>, part: Span) -> u8
+    ensures { Told 4 (outcome_number request) (part_bytes part) answer.old answer.new result }
+{
+    if answer.len() != 4 {
+        return Refusal::Length.number();
+    }
+    match request {
+        Ok(()) => {
+            answer.copy_from_slice(&in_bytes(part));
+            0
+        }
+        Err(refusal) => refusal.number(),
+    }
 }
 
 // The refusal number of a request for the FIC; where it is 0, the answer bytes hold the FIC's place and length.
@@ -46,15 +59,7 @@ fn put_part(out: &mut [u8], part: Span)
 pub extern "C" fn spindlewren_fic(frame: &[u8], answer: &mut [u8]) -> u8
     ensures { Told 4 (refusal_of frame.now) (part_bytes (fic_part frame.now)) answer.old answer.new result }
 {
-    if answer.len() != 4 {
-        return 1;
-    }
-    let refusal = spans::fic_refusal(frame);
-    if refusal != 0 {
-        return refusal;
-    }
-    put_part(answer, spans::fic_place(frame));
-    0
+    tell_part(answer, spans::fic_refusal(frame), spans::fic_place(frame))
 }
 
 // Likewise for stream i.
@@ -62,13 +67,9 @@ pub extern "C" fn spindlewren_fic(frame: &[u8], answer: &mut [u8]) -> u8
 pub extern "C" fn spindlewren_stream(frame: &[u8], i: usize, answer: &mut [u8]) -> u8
     ensures { Told 4 (stream_refusal_of frame.now i) (part_bytes (stream_part frame.now i)) answer.old answer.new result }
 {
-    if answer.len() != 4 {
-        return 1;
-    }
-    let refusal = spans::stream_refusal(frame, i);
-    if refusal != 0 {
-        return refusal;
-    }
-    put_part(answer, spans::stream_place(frame, i));
-    0
+    tell_part(
+        answer,
+        spans::stream_refusal(frame, i),
+        spans::stream_place(frame, i),
+    )
 }

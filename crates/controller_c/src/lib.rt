@@ -1,4 +1,5 @@
 // The reading for the transmitter's controller, for C: the exports of the archive `controller`.
+// The exports stand here once more, since no crate can be built on a static library, and others are built on `controller`.
 #![tactic(auto)]
 
 ghost use Rattle.frame.specs.Rules.{refusal_of, stream_refusal_of, fic_part, stream_part};

@@ -8,7 +8,7 @@ use native.Mathlib.Numerals.{add-one}
 use native.Mathlib.Omega.{arith}
 use borrow.Author.Tests.{ne_eqb, lt-ltb, le-leb, ltb-true}
 use lib.Dec.{eqb, ltb}
-use lib.ListN.{length, get_or, take, drop}
+use lib.ListN.{length, take, drop}
 use lib.Seq.{take_at}
 use Rattle.octets.specs.Choice.{pick}
 use Rattle.octets.specs.Stores.{put}
@@ -26,15 +26,11 @@ use Rattle.frame.proofs.Headers.{digit_of}
 use Rattle.items.specs.TagItems.{Item, items_of, value_of, highest_in}
 use Rattle.tags.specs.TagValues.{ficf_in, mid_in, fic_in, ficl_in, fic_place, entry_by, entry_in, fields_by}
 use Rattle.tags.proofs.TagLaws.{ficf_bit, fic_long}
-use Rattle.sorting.specs.declared.Sorted.{Sorted}
-use Rattle.sorting.specs.TagRules.{item_rules_of, Sorts}
+use Rattle.sorting.specs.TagRules.{item_rules_of}
 use Rattle.sorting.proofs.OnceMet.{Clear}
 use Rattle.edi.specs.Regenerating.{entries_to, data_to, fields_for, main_for, regenerating_refusal_of, Regenerates}
-use Rattle.edi.specs.EdiClauses.{long_to, over_rules, Kept}
-use Rattle.edi.proofs.StreamsKept.{long_more, entries_more, entries_length, data_words, called, main_long, kept_clear, stream_at}
-
-pub sorted_kept : (p : List ℕ) (r : Sorted) → Sorts p r → r.number ≡ 0 → Kept p r.starts r.lens r.highest
-sorted_kept p r y e = record { none = sym y.number ∙ e; placed = y.placed e; high = y.high e }
+use Rattle.edi.specs.EdiClauses.{long_to, over_rules}
+use Rattle.edi.proofs.StreamsKept.{long_more, entries_more, entries_length, data_words, called, main_long, kept_clear}
 
 -- ---- the fields
 pub fields_as : (is : List Item) (s : Bool) (m : List ℕ) (n : ℕ) (t : List Stream) → m ≡ value_of 0 is → n ≡ highest_in is → t ≡ table_by (entries_to is n) → fields_by m s n t ≡ fields_for is s
@@ -85,18 +81,18 @@ too_long x h m k was left r w =
       output = w.output ∙ ap (λ (b : Bool). pick b (frame_in x m) was) (z (length m)) ∙ sym (ap (λ (b : Bool). pick b (frame_in x k) was) (z (length k)));
     }
 
-module _ (p starts lens : List ℕ) (n : ℕ) (y : Kept p starts lens n) where
+module _ (p : List ℕ) (none : first (item_rules_of (items_of p)) ≡ 0) (n : ℕ) (high : n ≡ highest_in (items_of p)) where
   abbrev is : List Item
   is = items_of p
 
   z : Clear (items_of p)
-  z = kept_clear p starts lens n y
+  z = kept_clear p none
 
   -- the length, by the FIC's and the table's
   pub length_as : (m : List ℕ) → m ≡ value_of 0 is → (t : List Stream) → t ≡ table_by (entries_to is n) → (k : ℕ) → k ≡ 4 * ficl_in m + 8 * stl_total (take n t) → k ≡ length (main_for is)
   length_as m em t et k ek =
       let g : stl_total (take n t) ≡ stl_total (entries_to is (highest_in is)) =
-      ap (λ (u : List Stream). stl_total (take n u)) et ∙ ap stl_total (table_entries is n) ∙ ap (λ (j : ℕ). stl_total (entries_to is j)) y.high in
+      ap (λ (u : List Stream). stl_total (take n u)) et ∙ ap stl_total (table_entries is n) ∙ ap (λ (j : ℕ). stl_total (entries_to is j)) high in
       omega (arith, ek, ap ficl_in em, g, main_long p z)
 
   fl_as : (s : Bool) → 6124 < length (main_for is) → 1532 < fl_in (fields_for is s)
@@ -120,7 +116,7 @@ module _ (p starts lens : List ℕ) (n : ℕ) (y : Kept p starts lens n) where
   fic_length = fic_long (value_of 0 is) (called p z)
 
   data_length : length (data_to is n) ≡ 8 * stl_total (entries_to is (highest_in is))
-  data_length = ap (λ (k : ℕ). length (data_to is k)) y.high ∙ data_words p z (highest_in is) (omega arith)
+  data_length = ap (λ (k : ℕ). length (data_to is k)) high ∙ data_words p z (highest_in is) (omega arith)
 
   module _ (l f : List ℕ) (k : ℕ) (e : f ≡ fic_in (value_of 0 is)) (q : k ≡ 4 * ficl_in (value_of 0 is)) (h : length (main_for is) ≤ length l) where
     fic_fits : 0 + length f ≤ length l
@@ -133,7 +129,7 @@ module _ (p starts lens : List ℕ) (n : ℕ) (y : Kept p starts lens n) where
     unfolding main_for
     main_put a b pa pb =
         put_chain l a b 0 k f (data_to is n) pa pb (omega (arith, q, ap length e, fic_length)) (omega (arith, ap length e, fic_length, data_length, main_long p z, h))
-        ∙ (λ i. put l 0 (e i ++ data_to is (y.high i)))
+        ∙ (λ i. put l 0 (e i ++ data_to is (high i)))
 
 pub main_taken : (l a m : List ℕ) (len : ℕ) → len ≡ length m → len ≤ length l → a ≡ put l 0 m → take len a ≡ m
 main_taken l a m len e h q = ap (take len) (q ∙ put_room l 0 m (omega (arith, e, h))) ∙ take_at m (drop (0 + length m) l) len (sym e)
@@ -189,33 +185,32 @@ stl_wider v h =
     let e = le-leb 1024 ((length v - 3) / 8) (omega arith) in
     rw (e, or-true, or-true, or-true)
 
-module _ (p starts lens : List ℕ) (n : ℕ) (y : Kept p starts lens n) where
-  wider_more : (k : ℕ) → k < n → (long_to lens k ≡ true → some_stream_wider (entries_to (items_of p) k) ≡ true) → long_to lens (k + 1) ≡ true → some_stream_wider (entries_to (items_of p) (k + 1)) ≡ true
-  wider_more k h before e = go (long_to lens k) (ltb 8194 (get_or lens (k + 1) 0)) refl refl (sym (long_more lens k) ∙ e)
+module _ (p : List ℕ) (n : ℕ) (high : n ≡ highest_in (items_of p)) where
+  wider_more : (k : ℕ) → k < n → (long_to (items_of p) k ≡ true → some_stream_wider (entries_to (items_of p) k) ≡ true) → long_to (items_of p) (k + 1) ≡ true → some_stream_wider (entries_to (items_of p) (k + 1)) ≡ true
+  wider_more k h before e = go (long_to (items_of p) k) (ltb 8194 (length (value_of (k + 1) (items_of p)))) refl refl (sym (long_more (items_of p) k) ∙ e)
     where
       apart : some_stream_wider (entries_to (items_of p) (k + 1)) ≡ (some_stream_wider (entries_to (items_of p) k) || some_stream_wider (entry_in (value_of (k + 1) (items_of p)) ∷ []))
       apart = ap some_stream_wider (entries_more (items_of p) k) ∙ wider_append (entries_to (items_of p) k) (entry_in (value_of (k + 1) (items_of p)) ∷ [])
 
-      go : (a b : Bool) → long_to lens k ≡ a → ltb 8194 (get_or lens (k + 1) 0) ≡ b → (a || b) ≡ true → some_stream_wider (entries_to (items_of p) (k + 1)) ≡ true
+      go : (a b : Bool) → long_to (items_of p) k ≡ a → ltb 8194 (length (value_of (k + 1) (items_of p))) ≡ b → (a || b) ≡ true → some_stream_wider (entries_to (items_of p) (k + 1)) ≡ true
       go true b ea eb e = apart ∙ ap (λ (w : Bool). w || some_stream_wider (entry_in (value_of (k + 1) (items_of p)) ∷ [])) (before ea)
       go false true ea eb e =
-          let a = stream_at p starts lens n y k h in
-          let l : 8194 < get_or lens (k + 1) 0 = ltb-true 8194 _ eb in
+          let l : 8194 < length (value_of (k + 1) (items_of p)) = ltb-true 8194 _ eb in
           apart
-          ∙ ap (λ (w : Bool). some_stream_wider (entries_to (items_of p) k) || w) (stl_wider (value_of (k + 1) (items_of p)) (omega (arith, l, a.long)))
+          ∙ ap (λ (w : Bool). some_stream_wider (entries_to (items_of p) k) || w) (stl_wider (value_of (k + 1) (items_of p)) l)
           ∙ or-true (some_stream_wider (entries_to (items_of p) k))
       go false false ea eb e = absurd (clash (sym e))
 
-  long_wider : (k : ℕ) → k ≤ n → long_to lens k ≡ true → some_stream_wider (entries_to (items_of p) k) ≡ true
+  long_wider : (k : ℕ) → k ≤ n → long_to (items_of p) k ≡ true → some_stream_wider (entries_to (items_of p) k) ≡ true
   unfolding long_to
   long_wider zero h e = absurd (clash (sym e))
   long_wider (suc k) h e =
-      subst (λ (m : ℕ). long_to lens m ≡ true → some_stream_wider (entries_to (items_of p) m) ≡ true) (add-one k)
+      subst (λ (m : ℕ). long_to (items_of p) m ≡ true → some_stream_wider (entries_to (items_of p) m) ≡ true) (add-one k)
       (wider_more k (omega arith) (long_wider k (omega arith))) e
 
-  pub long_fields : (s : Bool) → long_to lens n ≡ true → wider (fields_for (items_of p) s) ≡ true
+  pub long_fields : (s : Bool) → long_to (items_of p) n ≡ true → wider (fields_for (items_of p) s) ≡ true
   unfolding wider
   long_fields s e =
       let w : some_stream_wider (entries_of (fields_for (items_of p) s)) ≡ true =
-      ap some_stream_wider (fields_entries (items_of p) s ∙ ap (entries_to (items_of p)) (sym y.high)) ∙ long_wider n (omega arith) e in
+      ap some_stream_wider (fields_entries (items_of p) s ∙ ap (entries_to (items_of p)) (sym high)) ∙ long_wider n (omega arith) e in
       rw (w, or-true, or-true)

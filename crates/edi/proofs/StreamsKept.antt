@@ -10,25 +10,28 @@ use native.Mathlib.Omega.{arith}
 use borrow.Author.Tests.{lt-ltb, le-leb, ltb-false, eqb-true, eqb-false}
 use lib.Dec.{eqb, ltb}
 use lib.ListN.{length, get_or, take, drop, length-drop, length-append}
-use lib.Seq.{length-take-le, take_all}
 use Rattle.octets.specs.Stores.{put}
 use Rattle.octets.proofs.Deciding.{neither, both}
 use Rattle.octets.proofs.Storing.{put_none, put_chain, put_length}
 use Rattle.frame.specs.Frame.{stl_total}
+use Rattle.frame.specs.Rules.{first}
 use Rattle.frame.proofs.Streams.{total_append}
 use Rattle.items.specs.TagItems.{Item, items_of, is_stream, values_of, value_of, highest_in, each_once}
-use Rattle.items.specs.PassNotes.{ValueAt}
+use Rattle.items.specs.declared.Met.{Met}
+use Rattle.items.specs.declared.Met.TheVariants.{Never}
+use Rattle.items.specs.PassNotes.{span_of}
 use Rattle.items.proofs.ItemList.{Words, value_words}
 use Rattle.tags.specs.TagValues.{fic_in, ficl_in, length_for, entry_by, entry_in}
 use Rattle.tags.proofs.TagLaws.{fic_long}
 use Rattle.sorting.proofs.OnceMet.{highest_small, managed_once, managed_called, Clear, clear}
 use Rattle.edi.specs.Regenerating.{entries_to, data_to, main_for}
-use Rattle.edi.specs.EdiClauses.{long_to, Kept}
+use Rattle.sorting.specs.TagRules.{item_rules_of}
+use Rattle.edi.specs.EdiClauses.{long_to, ValuesAt}
 
 -- ---- one more
-pub long_more : (lens : List ℕ) (n : ℕ) → long_to lens (n + 1) ≡ (long_to lens n || ltb 8194 (get_or lens (n + 1) 0))
+pub long_more : (is : List Item) (n : ℕ) → long_to is (n + 1) ≡ (long_to is n || ltb 8194 (length (value_of (n + 1) is)))
 unfolding long_to
-long_more lens n = rw (add-one n)
+long_more is n = rw (add-one n)
 
 pub entries_more : (is : List Item) (n : ℕ) → entries_to is (n + 1) ≡ entries_to is n ++ (entry_in (value_of (n + 1) is) ∷ [])
 unfolding entries_to
@@ -109,72 +112,56 @@ module _ (p : List ℕ) (z : Clear (items_of p)) where
       length-append (fic_in (value_of 0 is)) (data_to is (highest_in is))
       ∙ omega (arith, fic_long (value_of 0 is) called, data_words (highest_in is) (omega arith))
 
--- ---- where they lie
-pub record StreamAt (p v : List ℕ) (start len : ℕ) : Type 0 where
-  pub at : ValueAt p v start len
-  pub long : length v ≡ len
-  pub head : 3 ≤ len
-
-module _ (p starts lens : List ℕ) (n : ℕ) (y : Kept p starts lens n) where
+-- ---- a packet that the items' rules do not refuse
+module _ (p : List ℕ) (none : first (item_rules_of (items_of p)) ≡ 0) where
   pub kept_clear : Clear (items_of p)
-  kept_clear = clear (items_of p) y.none
+  kept_clear = clear (items_of p) none
 
-  pub kept_count : n ≤ 64
-  kept_count = omega (arith, y.high, highest_small (items_of p))
+  pub stream_head : (k : ℕ) → k < highest_in (items_of p) → 3 ≤ length (value_of (k + 1) (items_of p))
+  stream_head k h = omega (arith, stream_words p kept_clear k h)
 
-  pub stream_at : (k : ℕ) → k < n → StreamAt p (value_of (k + 1) (items_of p)) (get_or starts (k + 1) 0) (get_or lens (k + 1) 0)
-  stream_at k h =
-      let c = kept_count in
-      let start = get_or starts (k + 1) 0 in
-      let len = get_or lens (k + 1) 0 in
-      let a = y.placed (k + 1) (omega arith) (one_value p kept_clear k (omega (arith, y.high))) in
-      let d = length-drop start p in
-      let l : length (value_of (k + 1) (items_of p)) ≡ len = ap length (sym a.value) ∙ length-take-le len (drop start p) (omega (arith, a.inside)) in
-      record { at = a; long = l; head = omega (arith, l, stream_words p kept_clear k (omega (arith, y.high))) }
+  module _ (met : List Met) (v : ValuesAt p met) where
+    pub management_at : take (span_of (get_or met 0 Never)).len (drop (span_of (get_or met 0 Never)).start p) ≡ value_of 0 (items_of p)
+    management_at = v 0 (omega arith) (managed_once (items_of p) kept_clear.managed)
 
-  pub management_at : take (get_or lens 0 0) (drop (get_or starts 0 0) p) ≡ value_of 0 (items_of p)
-  management_at = (y.placed 0 (omega arith) (managed_once (items_of p) kept_clear.managed)).value
+    pub stream_at : (k : ℕ) → k < highest_in (items_of p) → take (span_of (get_or met (k + 1) Never)).len (drop (span_of (get_or met (k + 1) Never)).start p) ≡ value_of (k + 1) (items_of p)
+    stream_at k h = let c = highest_small (items_of p) in v (k + 1) (omega arith) (one_value p kept_clear k h)
 
-pub short_at : (lens : List ℕ) (n : ℕ) → long_to lens n ≡ false → (k : ℕ) → k < n → get_or lens (k + 1) 0 ≤ 8194
+pub short_at : (is : List Item) (n : ℕ) → long_to is n ≡ false → (k : ℕ) → k < n → length (value_of (k + 1) is) ≤ 8194
 unfolding long_to
-short_at lens zero e k l = absurd (omega arith)
-short_at lens (suc n) e k l = go (eqb k n) refl (neither (long_to lens n) (ltb 8194 (get_or lens (suc n) 0)) e) (short_at lens n)
+short_at is zero e k l = absurd (omega arith)
+short_at is (suc n) e k l = go (eqb k n) refl (neither (long_to is n) (ltb 8194 (length (value_of (suc n) is))) e) (short_at is n)
   where
-    go : (b : Bool) → eqb k n ≡ b → (long_to lens n ≡ false) × (ltb 8194 (get_or lens (suc n) 0) ≡ false)
-        → (long_to lens n ≡ false → (j : ℕ) → j < n → get_or lens (j + 1) 0 ≤ 8194) → get_or lens (k + 1) 0 ≤ 8194
+    go : (b : Bool) → eqb k n ≡ b → (long_to is n ≡ false) × (ltb 8194 (length (value_of (suc n) is)) ≡ false)
+        → (long_to is n ≡ false → (j : ℕ) → j < n → length (value_of (j + 1) is) ≤ 8194) → length (value_of (k + 1) is) ≤ 8194
     go true z u before = rw (eqb-true k n z, add-one n) (ltb-false 8194 _ u.1)
     go false z u before = before u.0 k (let w = eqb-false k n z in omega (arith, w))
 
-pub data_taken : (v : List ℕ) → take (length v) (drop 3 v) ≡ drop 3 v
-data_taken v = let d = length-drop 3 v in take_all (length v) (drop 3 v) (omega arith)
-
 -- ---- the main stream so far, with the data of the streams 1 to i behind `at`
-pub record Filling (is : List Item) (l : List ℕ) (at n : ℕ) (main : List ℕ) (place i : ℕ) : Type 0 where
-  pub some : i ≤ n
+pub record Filling (is : List Item) (l : List ℕ) (at : ℕ) (main : List ℕ) (place i : ℕ) : Type 0 where
   pub same : length main ≡ length l
   pub next : place ≡ at + length (data_to is i)
   pub holds : main ≡ put l at (data_to is i)
 
-module _ (is : List Item) (n : ℕ) (l : List ℕ) (at : ℕ) where
-  pub filling_none : at ≤ length l → Filling is l at n l at 0
+module _ (is : List Item) (l : List ℕ) (at : ℕ) where
+  pub filling_none : at ≤ length l → Filling is l at l at 0
   unfolding data_to
-  filling_none h = record { some = omega arith; same = refl; next = omega arith; holds = put_none l at h }
+  filling_none h = record { same = refl; next = omega arith; holds = put_none l at h }
 
-  module _ (room : at + length (data_to is n) ≤ length l) (main : List ℕ) (place i : ℕ) (f : Filling is l at n main place i) (h : i < n) (v : List ℕ) (e : v ≡ drop 3 (value_of (i + 1) is)) where
+  module _ (n : ℕ) (room : at + length (data_to is n) ≤ length l) (main : List ℕ) (place i : ℕ) (f : Filling is l at main place i) (h : i < n) (v : List ℕ) (e : v ≡ drop 3 (value_of (i + 1) is)) where
     below : length (data_to is i) + length v ≤ length (data_to is n)
     below = omega (arith, ap length e, data_next is i, data_below is (i + 1) n (omega arith))
 
     pub filling_place : place + length v ≤ length l
     filling_place = omega (arith, f.next, room, below)
 
-    pub filling_more : (after : List ℕ) → after ≡ put main place v → Filling is l at n after (place + length v) (i + 1)
+    pub filling_more : (after : List ℕ) → after ≡ put main place v → Filling is l at after (place + length v) (i + 1)
     filling_more after q =
         let w : after ≡ put l at (data_to is i ++ v) =
         put_chain l main after at place (data_to is i) v f.holds q f.next (omega (arith, room, below)) in
         let g : after ≡ put l at (data_to is (i + 1)) =
         w ∙ ap (λ (u : List ℕ). put l at u) (ap (λ (u : List ℕ). data_to is i ++ u) e ∙ sym (data_more is i)) in
         record {
-          some = omega arith;
           same = ap length g ∙ put_length l at (data_to is (i + 1)) (omega (arith, room, data_below is (i + 1) n (omega arith)));
           next = omega (arith, f.next, data_next is i, ap length e);
           holds = g;

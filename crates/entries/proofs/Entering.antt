@@ -4,14 +4,9 @@ use mathlib.Core.List.{List, [], ◌∷◌, ◌++◌}
 use mathlib.Core.Path.{◌≡◌, refl, ap, ◌∙◌}
 use Prim.Native.Nat.{ℕ, zero, suc, ◌+◌}
 use native.Mathlib.Numerals.{add-one}
-use native.Mathlib.Omega.{arith}
 use borrow.Author.Tests.{eq-eqb, ne_eqb}
 use lib.ListN.{length, length-append}
-use Rattle.octets.specs.Stores.{put}
-use Rattle.octets.specs.Words.{split, bytes8}
-use Rattle.octets.proofs.Storing.{put_chain, put_all}
 use Rattle.frame.specs.Writing.{Writes}
-use Rattle.entries.specs.Numbered.{ten_bytes}
 use Rattle.entries.specs.Entered.{entry_in, entries_to, fields_in, Entered}
 
 pub entries_more : (b : List ℕ) (n : ℕ) → entries_to b (n + 1) ≡ entries_to b n ++ (entry_in b n ∷ [])
@@ -31,8 +26,3 @@ module _ (b main was : List ℕ) where
   entered h left r w =
       let y = eq-eqb (length b) 401 h in
       record { number = w.number ∙ (rw y); output = w.output ∙ (rw y) }
-
--- two bytes and then a place are an item's ten
-pub ten_stored : (l a b : List ℕ) (kind number n : ℕ) → length l ≡ 10 → a ≡ put l 0 (kind ∷ number ∷ []) → b ≡ put a 2 (split bytes8 n) → b ≡ ten_bytes kind number n
-ten_stored l a b kind number n h p q =
-    put_chain l a b 0 2 (kind ∷ number ∷ []) (split bytes8 n) p q refl (omega arith) ∙ put_all l (kind ∷ number ∷ split bytes8 n) (omega arith)

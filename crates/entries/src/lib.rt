@@ -1,9 +1,8 @@
 // The sum, writing and a walk's n-th item on byte slices, for programs in other languages that test and measure them.
 #![tactic(auto)]
 
-ghost use Rattle.std.specs.Prelude.{[], ◌∷◌, ◌≡◌, ◌+◌, ◌*◌, ◌<◌, length};
+ghost use Rattle.std.specs.Prelude.{◌≡◌, ◌<◌};
 ghost use Rattle.sum.specs.Sum.{sum_of};
-ghost use Rattle.octets.specs.Stores.{put};
 ghost use Rattle.frame.specs.Answers.{table_by};
 ghost use Rattle.walker.specs.Advance.{item_of};
 ghost use Rattle.walks.specs.WalkCalls.{Limited};
@@ -11,22 +10,22 @@ ghost use Rattle.entries.specs.Entered.{timestamp_by, entry_in, entries_to, fiel
 ghost use Rattle.entries.specs.Numbered.{ten_bytes, item_bytes};
 
 use frame::{Fields, Stream, Timestamp};
+use refusals::Refusal;
 use walk::Item;
 
+#[tactic(auto, using(octets::proofs::Deciding::tests), unfolding(crate::specs::Entered::timestamp_by))]
 fn timestamp(sort: u8, n: u32) -> Timestamp
     ensures { result ≡ timestamp_by sort n }
 {
-    if sort == 0 {
-        return Timestamp::Absent;
+    match sort {
+        0 => Timestamp::Absent,
+        1 => Timestamp::Time(n),
+        _ => Timestamp::Reserved(n),
     }
-    if sort == 1 {
-        return Timestamp::Time(n);
-    }
-    Timestamp::Reserved(n)
 }
 
-fn entry(bytes: &[u8], i: usize) -> Stream
-    requires { (length bytes.now ≡ 401) × (i < 64) }
+fn entry(bytes: &[u8; 401], i: usize) -> Stream
+    requires { i < 64 }
     ensures { result ≡ entry_in bytes.now i }
 {
     let at = 17 + 6 * i;
@@ -38,25 +37,19 @@ fn entry(bytes: &[u8], i: usize) -> Stream
     }
 }
 
-fn table(bytes: &[u8]) -> [Stream; 64]
-    requires { length bytes.now ≡ 401 }
+fn table(bytes: &[u8; 401]) -> [Stream; 64]
     ensures { result ≡ table_by (entries_to bytes.now 64) }
 {
     let mut table = reading::no_streams();
-    let mut i = 0;
-    while i < 64 {
+    for i in 0..64 {
         table[i] = entry(bytes, i);
-        i += 1;
     }
     table
 }
 
-fn fields(bytes: &[u8]) -> Fields
-    requires { length bytes.now ≡ 401 }
+fn fields(bytes: &[u8; 401]) -> Fields
     ensures { result ≡ fields_in bytes.now }
 {
-    let timestamp = timestamp(bytes[12], octets::word(bytes, 13) as u32);
-    let table = table(bytes);
     Fields {
         level: bytes[0],
         fsync1: bytes[1] != 0,
@@ -67,9 +60,9 @@ fn fields(bytes: &[u8]) -> Fields
         mnsc: octets::two(bytes, 7) as u16,
         rfu: octets::two(bytes, 9) as u16,
         rfa: bytes[11],
-        timestamp,
+        timestamp: timestamp(bytes[12], octets::word(bytes, 13) as u32),
         count: bytes[4] as usize,
-        table,
+        table: table(bytes),
     }
 }
 
@@ -85,37 +78,32 @@ pub extern "C" fn spindlewren_sum(bytes: &[u8]) -> u16
 pub extern "C" fn spindlewren_write(given: &[u8], main: &[u8], out: &mut [u8]) -> u8
     ensures { Entered given.now main.now out.old out.new result }
 {
-    if given.len() != 401 {
-        return 1;
+    match <&[u8; 401]>::try_from(given) {
+        Ok(given) => refusals::outcome(writing::write(fields(given), main, out)),
+        Err(_) => Refusal::Length.number(),
     }
-    writing::write(fields(given), main, out)
 }
 
-fn put_two(out: &mut [u8], kind: u8, number: u8)
-    requires { length out.old ≡ 10 }
-    ensures { out.new ≡ put out.old 0 (kind ∷ number ∷ []) }
+// A kind, a refusal's number and a place.
+fn ten(kind: u8, number: u8, place: usize) -> [u8; 10]
+    ensures { result ≡ ten_bytes kind number place }
 {
-    out[0] = kind;
-    out[1] = number;
+    let place = place.to_be_bytes();
+    [
+        kind, number, place[0], place[1], place[2], place[3], place[4], place[5], place[6],
+        place[7],
+    ]
 }
 
-fn put_ten(out: &mut [u8], kind: u8, number: u8, n: usize)
-    requires { length out.old ≡ 10 }
-    ensures { out.new ≡ ten_bytes kind number n }
-{
-    put_two(out, kind, number);
-    putting::put8(out, 2, n);
-}
-
-fn put_item(out: &mut [u8], item: Item)
-    requires { length out.old ≡ 10 }
-    ensures { out.new ≡ item_bytes item }
+#[tactic(auto, unfolding(crate::specs::Numbered::item_bytes))]
+fn in_bytes(item: Item) -> [u8; 10]
+    ensures { result ≡ item_bytes item }
 {
     match item {
-        Item::Frame(p, _) => put_ten(out, 0, 0, p),
-        Item::Lost(p, n) => put_ten(out, 1, n, p),
-        Item::Idle(p) => put_ten(out, 2, 4, p),
-        Item::Done(p) => put_ten(out, 3, 0, p),
+        Item::Frame(place, _) => ten(0, 0, place),
+        Item::Lost(place, refusal) => ten(1, refusal.number(), place),
+        Item::Idle(place) => ten(2, Refusal::Null.number(), place),
+        Item::Done(place) => ten(3, 0, place),
     }
 }
 
@@ -124,16 +112,13 @@ fn put_item(out: &mut [u8], item: Item)
 pub extern "C" fn spindlewren_nth(record: &[u8], limit: usize, n: usize, answer: &mut [u8]) -> u8
     ensures { Limited limit 10 (item_bytes (item_of limit «record».now n)) answer.old answer.new result }
 {
-    let refusal = walk::limit_refusal(limit);
-    if refusal != 0 {
-        return refusal;
+    if let Err(refusal) = walk::limit_refusal(limit) {
+        return refusal.number();
     }
     if answer.len() != 10 {
-        return 1;
+        return Refusal::Length.number();
     }
     let reached = walker::nth(record, limit, n);
-    let step = reached.step;
-    let item = step.item;
-    put_item(answer, item);
+    answer.copy_from_slice(&in_bytes(reached.step.item));
     0
 }

@@ -10,13 +10,12 @@ use lib.Dec.{eqb}
 use lib.ListN.{length, get_or, take, drop, length-append, length-replicate}
 use lib.Seq.{take_at, drop_at, take_all, take-append-le, get_or-append-add}
 use Rattle.sum.specs.Sum.{sum_of}
-use Rattle.frame.specs.declared.Answer.{Answer}
-use Rattle.frame.specs.declared.Answer.TheVariants.{Accepted, Refused}
+use Rattle.std.specs.Prelude.{Ok, Err}
 use Rattle.frame.specs.declared.Reading.{Reading}
 use Rattle.frame.specs.declared.Stream.{Stream}
 use Rattle.frame.specs.Frame.{fl_by, stl_total}
 use Rattle.frame.specs.Rules.{first}
-use Rattle.frame.specs.Answers.{digit, timestamp_values, returned_of, sums_of, no_stream, table_by, Reads}
+use Rattle.frame.specs.Answers.{Answer, digit, timestamp_values, returned_of, sums_of, no_stream, table_by, Reads}
 use Rattle.frame.specs.Writing.{entries_of, fl_in, values_in, writing_rules_of, writing_refusal_of, written_of, Writes}
 use Rattle.frame.proofs.FirstRule.{none_hold, first_zero, first_found}
 use Rattle.frame.proofs.Headers.{digit_of}
@@ -46,8 +45,8 @@ table_long is s =
     length-append (entries_to is (highest_in is)) _ ∙ rw (length-replicate, entries_length is (highest_in is)) (omega arith)
 
 apart : (a : Answer) → Rattle.frame.specs.Answers.values_of a ≡ returned_of a ++ sums_of a
-apart (Accepted h) = refl
-apart (Refused n) = refl
+apart (Ok h) = refl
+apart (Err r) = refl
 
 -- ---- one entry and one stream's data among all
 entries_take : (is : List Item) (i n : ℕ) → i ≤ n → take i (entries_to is n) ≡ entries_to is i
@@ -124,11 +123,11 @@ module _ (p : List ℕ) (s : Bool) (was left : List ℕ) (n : ℕ) (g : Regenera
       sym (first_zero (item_rules_of is) (writing_rules_of (fields_for is s) (length (main_for is)) (length was)) (none_hold (item_rules_of is) (tt, (tt, (tt, (tt, tt)))) none))
       ∙ refusal
 
-  written : Writes (fields_for is s) (main_for is) was left n
+  written : Writes (fields_for is s) (main_for is) was left 0
   unfolding written_of
   written =
       record {
-        number = e ∙ sym unrefused;
+        number = sym unrefused;
         output = g.output ∙ (rw (eq-eqb (regenerating_refusal_of is s (length was)) 0 refusal, eq-eqb (writing_refusal_of (fields_for is s) (length (main_for is)) (length was)) 0 unrefused));
       }
 
@@ -166,7 +165,7 @@ module _ (p : List ℕ) (s : Bool) (was left : List ℕ) (n : ℕ) (g : Regenera
   pub regenerated_read : (r : Reading) → Reads left r → FromItems is s left r
   unfolding fields_for fields_by
   regenerated_read r reads =
-      let b = back_read (fields_for is s) (main_for is) was left n written e (table_long is s) r reads in
+      let b = back_read (fields_for is s) (main_for is) was left written (table_long is s) r reads in
       let y = eq-eqb (writing_refusal_of (fields_for is s) (length (main_for is)) (length was)) 0 unrefused in
       let given : returned_of r.answer ≡ values_for is s = b.values ∙ (rw y (values_for_lem is s)) in
       let sums : sums_of r.answer ≡ sum_of (main_for is) ∷ sum_of (main_for is) ∷ [] = b.sums ∙ (rw y) in

@@ -5,7 +5,7 @@ ghost use Rattle.std.specs.Prelude.{◌≡◌};
 ghost use Rattle.field.specs.Field.{bit, scale, twice, times, power};
 ghost use Rattle.field.specs.FieldClauses.{entry_of};
 
-// The 255 powers of alpha, each the previous times alpha: the next would be the first again.
+// The 255 powers of alpha, each the previous times alpha: the next would be the first again. A table, since its rule is shown over the whole of it (`Powers.powers_at`).
 const POWERS: [u8; 255] = [
     1, 2, 4, 8, 16, 32, 64, 128, 135, 137, 149, 173, 221, 61, 122, 244, 111, 222, 59, 118, 236, 95,
     190, 251, 113, 226, 67, 134, 139, 145, 165, 205, 29, 58, 116, 232, 87, 174, 219, 49, 98, 196,
@@ -53,9 +53,7 @@ pub fn times(a: u8, b: u8) -> u8
     ensures { result ≡ times a b }
 {
     let mut t: u8 = 0;
-    let mut k: u8 = 8;
-    while 0 < k {
-        k -= 1;
+    for k in (0..8u8).rev() {
         t = twice(t) ^ part(a, b >> k);
     }
     t

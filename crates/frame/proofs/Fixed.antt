@@ -5,12 +5,12 @@ use mathlib.Core.List.{List, [], ◌∷◌}
 use mathlib.Core.Path.{◌≡◌, refl, sym, ap, ◌∙◌}
 use Prim.Native.Nat.{ℕ}
 use native.Mathlib.Omega.{arith}
-use Rattle.frame.specs.declared.Answer.{Answer}
-use Rattle.frame.specs.declared.Answer.TheVariants.{Accepted, Refused}
+use Rattle.std.specs.Prelude.{Ok, Err}
+use Rattle.refusals.proofs.Numbers.{above_zero, number_fixed}
 use Rattle.frame.specs.declared.Header.{Header}
 use Rattle.frame.specs.declared.Reading.{Reading}
 use Rattle.frame.proofs.Timestamps.{timestamp_fixed}
-use Rattle.frame.specs.Answers.{digit, header_values, number_of, values_of, returned_of, sums_of, returning_of, fields_of, Reads}
+use Rattle.frame.specs.Answers.{Answer, digit, header_values, number_of, values_of, returned_of, sums_of, returning_of, fields_of, Reads}
 use Rattle.frame.specs.Frame.{main_of, main_sum_of}
 use Rattle.sum.specs.Sum.{sum_of}
 
@@ -55,10 +55,10 @@ header_fixed h k e =
     }
 
 pub answer_fixed : (a b : Answer) → number_of a ≡ number_of b → values_of a ≡ values_of b → a ≡ b
-answer_fixed (Accepted h) (Accepted k) n v = ap Accepted (header_fixed h k v)
-answer_fixed (Accepted h) (Refused m) n v = let z : ◌≡◌ {A = ℕ} 0 1 = cc in absurd (omega arith)
-answer_fixed (Refused m) (Accepted h) n v = let z : ◌≡◌ {A = ℕ} 0 1 = cc in absurd (omega arith)
-answer_fixed (Refused m) (Refused n) e v = ap Refused e
+answer_fixed (Ok h) (Ok k) n v = ap Ok (header_fixed h k v)
+answer_fixed (Ok h) (Err s) n v = absurd (above_zero s (sym n))
+answer_fixed (Err r) (Ok k) n v = absurd (above_zero r n)
+answer_fixed (Err r) (Err s) n v = ap Err (number_fixed r s n)
 
 pub reading_fixed : (f : List ℕ) (r q : Reading) → Reads f r → Reads f q → r ≡ q
 reading_fixed f r q a b =
@@ -69,5 +69,5 @@ reading_fixed f r q a b =
 -- the values of an accepted frame's answer, taken apart: the fields that return, and the two sums
 pub apart : (f : List ℕ) (a : Answer) → values_of a ≡ fields_of f → (returned_of a ≡ returning_of f) × (sums_of a ≡ main_sum_of f ∷ sum_of (main_of f) ∷ [])
 unfolding fields_of returning_of
-apart f (Accepted h) e = (cc, cc)
-apart f (Refused n) e = let z : ◌≡◌ {A = ℕ} 0 1 = cc in absurd (omega arith)
+apart f (Ok h) e = (cc, cc)
+apart f (Err r) e = let z : ◌≡◌ {A = ℕ} 0 1 = cc in absurd (omega arith)

@@ -1,17 +1,17 @@
 -- What reading answers, as the paper's numbers and values.
 -- Assumes nothing.
-use Rattle.std.specs.Prelude.{List, [], ◌∷◌, ◌++◌, ◌⊎◌, ◌≡◌, ℕ, ◌+◌, ◌-◌, ◌≤◌, eqb, ltb, length, replicate}
+use Rattle.std.specs.Prelude.{Result, Ok, Err, List, [], ◌∷◌, ◌++◌, ◌⊎◌, ◌≡◌, ℕ, ◌+◌, ◌-◌, ◌≤◌, eqb, ltb, length, replicate}
 use Rattle.std.specs.Borrow.{Bor}
 pub use Rattle.sum.specs.Sum.{digit}
 use Rattle.sum.specs.Sum.{sum_of}
-use Rattle.frame.specs.declared.Answer.{Answer}
-use Rattle.frame.specs.declared.Answer.TheVariants.{Accepted, Refused}
 use Rattle.frame.specs.declared.Header.{Header}
 use Rattle.frame.specs.declared.Reading.{Reading}
 use Rattle.frame.specs.declared.Span.{Span}
 use Rattle.frame.specs.declared.Stream.{Stream}
 use Rattle.frame.specs.declared.Timestamp.{Timestamp}
 use Rattle.frame.specs.declared.Timestamp.TheVariants.{Absent, Time, Reserved}
+use Rattle.refusals.specs.Refusals.{outcome_number}
+use Rattle.refusals.specs.declared.Refusal.{Refusal}
 use Rattle.octets.specs.Choice.{pick, place_in}
 use Rattle.frame.specs.Frame.{statuses, err_of, fsyncs, fsync_of, fct_of, ficf_of, nst_of, fp_of, mid_of, fl_of, streams_of, cut, mnsc_of, main_of, main_sum_of, rfu_of, rfa_of, time_of, level_of}
 use Rattle.frame.specs.Rules.{refusal_of}
@@ -46,23 +46,26 @@ sum_values h = h.sent ∷ h.worked ∷ []
 abbrev pub header_values : Header → List ℕ
 header_values h = returning_values h ++ sum_values h
 
+-- what reading answers: the header, or why the frame is refused
+abbrev pub Answer : Type 0
+Answer = Result Header Refusal
+
 -- an answer's number, 0 for accepted, and its values, none for refused
 abbrev pub number_of : Answer → ℕ
-number_of (Accepted h) = 0
-number_of (Refused n) = n
+number_of a = outcome_number a
 
 abbrev pub values_of : Answer → List ℕ
-values_of (Accepted h) = header_values h
-values_of (Refused n) = []
+values_of (Ok h) = header_values h
+values_of (Err r) = []
 
 -- of its values, the fields that return, and the two sums
 abbrev pub returned_of : Answer → List ℕ
-returned_of (Accepted h) = returning_values h
-returned_of (Refused n) = []
+returned_of (Ok h) = returning_values h
+returned_of (Err r) = []
 
 abbrev pub sums_of : Answer → List ℕ
-sums_of (Accepted h) = sum_values h
-sums_of (Refused n) = []
+sums_of (Ok h) = sum_values h
+sums_of (Err r) = []
 
 -- ---- what a frame's answer is to be
 unfoldable pub returning_of : List ℕ → List ℕ

@@ -1,6 +1,11 @@
 // What a frame holds, as values.
 #![tactic(auto)]
 
+ghost use Rattle.std.specs.Prelude.{◌≡◌};
+ghost use Rattle.frame.specs.Answers.{time_by};
+
+use refusals::Refusal;
+
 // A stream's entry in the table (clause 5.4.1).
 #[derive(Clone, Copy)]
 pub struct Stream {
@@ -17,6 +22,7 @@ pub struct Sync {
     pub fsync: u32,
 }
 
+// FICF is its bit here, as the word has it; a header and a field set say whether it is set.
 #[derive(Clone, Copy)]
 pub struct Fc {
     pub fct: u8,
@@ -53,6 +59,19 @@ pub enum Timestamp {
     Reserved(u32),
 }
 
+impl Timestamp {
+    // The number that the frame carries: FFFFFF where no timestamp is given.
+    pub fn number(self) -> u32
+        ensures { result ≡ time_by self }
+    {
+        match self {
+            Timestamp::Absent => 0xFFFFFF,
+            Timestamp::Time(n) => n,
+            Timestamp::Reserved(n) => n,
+        }
+    }
+}
+
 // The fields of an accepted frame. The sync word is FSYNC1 where fsync1 is set, else FSYNC0. The level is the one handed on;
 // sent and worked are the main-stream sum as sent and as worked out.
 #[derive(Clone, Copy)]
@@ -73,17 +92,10 @@ pub struct Header {
     pub worked: u16,
 }
 
-// What reading answers: the header, or the number of the refusal.
-#[derive(Clone, Copy)]
-pub enum Answer {
-    Accepted(Header),
-    Refused(u8),
-}
-
-// The answer, and the stream table beside it.
+// What reading answers: the header, or why the frame is refused; and the stream table beside it, zero on a refusal.
 #[derive(Clone, Copy)]
 pub struct Reading {
-    pub answer: Answer,
+    pub answer: Result<Header, Refusal>,
     pub table: [Stream; 64],
 }
 
@@ -95,6 +107,7 @@ pub struct Span {
 }
 
 // The fields given to writing. Entries beyond the count have no effect. FL is worked out, and so are both sums.
+// An array of 64 and a count, not a slice: the field set is handed about by value, and no heap holds a table.
 #[derive(Clone, Copy)]
 pub struct Fields {
     pub level: u8,

@@ -1,6 +1,6 @@
 -- The answer about clean rows.
 -- Assumes nothing.
-use mathlib.Core.Path.{◌≡◌, refl, ap, subst, ◌∙◌}
+use mathlib.Core.Path.{◌≡◌, refl, ap, ◌∙◌}
 use mathlib.Core.Bool.{Bool, true, false}
 use mathlib.Core.List.{List, []}
 use Prim.Native.Nat.{ℕ, ◌-◌, ◌<◌}
@@ -9,9 +9,10 @@ use lib.ListN.{length, get_or}
 use Rattle.array.specs.CodingArray.{width_of}
 use Rattle.array.specs.OutputArray.{place, array_row, array_of}
 use Rattle.array.proofs.Filling.{list_length, list_at}
-use Rattle.code.specs.Code.{is_clean}
 use Rattle.code.specs.CodeAnswers.{row_refusal, Tests}
-use Rattle.code.specs.declared.TestedRow.{TestedRow}
+use Rattle.refusals.specs.declared.Refusal.{Refusal}
+use Rattle.refusals.proofs.Numbers.{above_zero}
+use Rattle.std.proofs.Common.{Ok, Err}
 use Rattle.homeward.specs.RowsClean.{digit, clean_row, clean_rows, rows_refusal, TellsRows}
 
 row_length : (o : List ℕ) (i : ℕ) → length (array_row o i) ≡ 240
@@ -23,23 +24,22 @@ pub array_row_lem : (o : List ℕ) (xs : List (List ℕ)) (i : ℕ) → xs ≡ a
 unfolding array_of
 array_row_lem o xs i e h = ap (λ (c : List (List ℕ)). get_or c i []) e ∙ list_at (array_row o) [] 24 i h
 
--- the test of a row of an array
-tested : (fourteen : Bool) (o row : List ℕ) (i : ℕ) (t : TestedRow) → row ≡ array_row o i → Tests row (240 - width_of fourteen) t → t.clean ≡ is_clean (240 - width_of fourteen) (array_row o i)
-unfolding row_refusal
-tested fourteen o row i t e k =
-    let l : length row ≡ 240 = ap length e ∙ row_length o i in
-    let z : t.refusal ≡ 0 = k.number ∙ rw l (none fourteen) in
-    let c = k.told in
-    let d : t.clean ≡ is_clean (240 - width_of fourteen) row = (rw z at c) in
-    d ∙ ap (is_clean (240 - width_of fourteen)) e
-  where
-    none : (x : Bool) → row_refusal 240 (240 - width_of x) ≡ 0
-    none true = refl
-    none false = refl
+-- a row of an array is tested, and told clean where it is
+module _ (fourteen : Bool) (o row : List ℕ) (i k : ℕ) (e : row ≡ array_row o i) (q : k ≡ width_of fourteen) where
+  allowed : row_refusal (length row) (240 - k) ≡ 0
+  unfolding row_refusal
+  allowed = rw (e, row_length o i, q) (none fourteen)
+    where
+      none : (x : Bool) → row_refusal 240 (240 - width_of x) ≡ 0
+      none true = refl
+      none false = refl
 
-pub told : (fourteen : Bool) (o row : List ℕ) (i k : ℕ) (t : TestedRow) → row ≡ array_row o i → k ≡ width_of fourteen → Tests row (240 - k) t → digit t.clean ≡ clean_row (width_of fourteen) o i
-unfolding clean_row
-told fourteen o row i k t e q c = ap digit (tested fourteen o row i t e (subst (λ (v : ℕ). Tests row (240 - v) t) q c))
+  pub told : (clean : Bool) → Tests row (240 - k) (Ok clean) → digit clean ≡ clean_row (width_of fourteen) o i
+  unfolding clean_row
+  told clean t = ap digit (t.told ∙ rw (e, q))
+
+  pub never_refused : (r : Refusal) → Tests row (240 - k) (Err r) → ⊥
+  never_refused r t = above_zero r (t.number ∙ allowed)
 
 module _ (fourteen : Bool) (o before : List ℕ) where
   pub not-output : (length o ≡ 6144 → ⊥) → TellsRows fourteen o before before 1

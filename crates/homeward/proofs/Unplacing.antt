@@ -6,23 +6,37 @@ use mathlib.Core.List.{List, [], ◌∷◌}
 use Prim.Native.Nat.{ℕ, zero, suc, ◌+◌, ◌-◌, ◌*◌, ◌/◌, ◌%◌, ◌<◌, ◌≤◌}
 use native.Mathlib.Nat.{div-lt_iff_lt-mul, mod-lt, mul-le-mul_right}
 use native.Mathlib.Omega.{arith}
-use borrow.Author.Tests.{eq-eqb, ne_eqb, lt-ltb, le-ltb}
+use borrow.Author.Tests.{eq-eqb, ne_eqb, lt-ltb, le-ltb, le-leb}
+use borrow.Rule.Slice.PartMut.{put_mid}
 use lib.Arith.{digits_div, digits_mod}
 use lib.Dec.{eqb, ltb, lit<}
-use lib.ListN.{length, get_or}
+use lib.ListN.{length, get_or, take, drop, length-drop}
+use lib.Seq.{length-take-le}
+use Rattle.std.proofs.lemmas.List.{drop-drop}
+use Rattle.std.proofs.Common.{append_assoc}
 use Rattle.octets.specs.Stores.{put}
 use Rattle.octets.proofs.Storing.{put_all}
 use Rattle.octets.proofs.Deciding.{not_both}
 use Rattle.array.specs.Listed.{list}
 use Rattle.array.specs.CodingArray.{Wide, superblock, upper_row, width_of, carried, Parts, lent, taken, index_at, at, row_of, column_of, information_of, blocks_of, check_of}
 use Rattle.array.specs.OutputArray.{interleaved, sent, place, array_row, array_of, g_bytes_of, parts_of}
-use Rattle.array.specs.PartLengths.{refusal_beside}
+use Rattle.array.specs.PartLengths.{parts_refusal, refusal_beside}
 use Rattle.array.proofs.Cells.{wide, placed, held, width_below}
 use Rattle.array.proofs.Filling.{Filled, filled_none, filled_run, list_at, list_length, list_same}
 use Rattle.array.proofs.Sending.{array_of_at}
-use Rattle.array.proofs.PartSizes.{six}
+use Rattle.array.proofs.PartSizes.{one_of_six, six}
 use Rattle.homeward.specs.BackClauses.{stepped, Reaches, interleaving_of, cell, byte_of, block_of, check_byte_of, Out, Room, HandsOut}
 use Rattle.homeward.specs.WayBack.{back_refusal, Returns}
+
+-- a part written, as bytes put there
+pub part_put : (out part : List ℕ) (to n : ℕ) → to + n ≤ length out → length part ≡ n → put_mid to (to + n - to) out part ≡ put out to part
+unfolding put
+part_put out part to n h e =
+    let k : to + n - to ≡ n = omega arith in
+    rw (k, le-leb (to + length part) (length out) (rw e h), e, drop-drop) (sym (append_assoc (take to out) part (drop (to + n) out)))
+
+pub part_length : (out : List ℕ) (to n : ℕ) → to + n ≤ length out → length (take (to + n - to) (drop to out)) ≡ n
+part_length out to n h = let k : to + n - to ≡ n = omega arith in rw k (length-take-le n (drop to out) (rw length-drop (omega arith)))
 
 -- ---- a run of a row
 along : (i j m : ℕ) → interleaved i j + 8 * m ≡ interleaved i (j + m)
@@ -132,10 +146,6 @@ pub cell_at : (o : List ℕ) (i j : ℕ) → i < 24 → j < 240 → cell (interl
 unfolding interleaving_of place
 cell_at o i j h l = list_at (λ p. get_or o (sent p) 0) 0 5760 (interleaved i j) (omega arith) ∙ sym (array_of_at o i j h l)
 
-pub interleaving_length : (o x : List ℕ) → x ≡ interleaving_of o → length x ≡ 5760
-unfolding interleaving_of
-interleaving_length o x e = ap length e ∙ list_length (λ p. get_or o (sent p) 0) 5760
-
 pub row_is : (o x : List ℕ) (i : ℕ) → i < 24 → x ≡ interleaving_of o → list (cell x i) 240 ≡ array_row o i
 unfolding array_row
 row_is o x i h e =
@@ -172,37 +182,44 @@ module _ (fourteen : Bool) (o b m s g h r : List ℕ) where
   abbrev p : Parts
   p = lent b m s g h r
 
-  pub refused_length : (n : ℕ) → n ≡ refusal_beside w p o → (n ≡ 0 → ⊥) → Returns fourteen o p p 1
+  pub refused_length : (n : ℕ) → n ≡ refusal_beside w p o → (n ≡ 0 → ⊥) → Returns fourteen o p p n
   unfolding back_refusal
-  refused_length n e f = record { number = rw (← e, ne_eqb n 0 f); parts = refl }
+  refused_length n e f =
+      record {
+        number = one_of_six w (length o) (length m) (length s) (length g) (length h) (length r) n e f ∙ rw (← e, ne_eqb n 0 f);
+        parts = rw (ne_eqb n 0 f);
+      }
 
-  pub refused_information : (n k : ℕ) → n ≡ refusal_beside w p o → n ≡ 0 → k ≡ w → (length b ≡ carried k → ⊥) → Returns fourteen o p p 1
+  pub refused_output : (length o ≡ 6144 → ⊥) → Returns fourteen o p p 1
+  unfolding back_refusal parts_refusal
+  refused_output h = record { number = rw (ne_eqb (length o) 6144 h); parts = refl }
+
+  pub refused_information : (k : ℕ) → 0 ≡ refusal_beside w p o → k ≡ w → (length b ≡ carried k → ⊥) → Returns fourteen o p p 1
   unfolding back_refusal
-  refused_information n k e z q f = record { number = rw (← e, z, ne_eqb (length b) (carried w) (rw q at f)); parts = refl }
+  refused_information k e q f = record { number = rw (← e, ne_eqb (length b) (carried w) (rw q at f)); parts = refl }
 
   -- the lengths, where none is refused
-  pub lengths_of : (n k : ℕ) → n ≡ refusal_beside w p o → n ≡ 0 → get_or (length o ∷ length m ∷ length s ∷ length g ∷ length h ∷ length r ∷ []) k 0 ≡ get_or (6144 ∷ 24 ∷ 24 ∷ 192 ∷ 192 ∷ 24 * (240 - w) ∷ []) k 0
-  lengths_of n k e z = six w (length o) (length m) (length s) (length g) (length h) (length r) k (sym e ∙ z)
+  pub lengths_of : (k : ℕ) → 0 ≡ refusal_beside w p o → get_or (length o ∷ length m ∷ length s ∷ length g ∷ length h ∷ length r ∷ []) k 0 ≡ get_or (6144 ∷ 24 ∷ 24 ∷ 192 ∷ 192 ∷ 24 * (240 - w) ∷ []) k 0
+  lengths_of k e = six w (length o) (length m) (length s) (length g) (length h) (length r) k (sym e)
 
-  pub room : (n k : ℕ) (x : List ℕ) → x ≡ interleaving_of o → n ≡ refusal_beside w p o → n ≡ 0 → k ≡ w → Wide k → length b ≡ carried k → Room k x b m s r
-  room n k x a e z q W f =
+  pub room : (k : ℕ) → 0 ≡ refusal_beside w p o → k ≡ w → Wide k → length b ≡ carried k → Room k b m s r
+  room k e q W f =
       record {
         wide = W;
         within = rw q (width_below fourteen);
-        array = interleaving_length o x a;
         information = f;
-        management = lengths_of n 1 e z;
-        supervision = lengths_of n 2 e z;
-        check = lengths_of n 5 e z ∙ ap (λ (v : ℕ). 24 * (240 - v)) (sym q);
+        management = lengths_of 1 e;
+        supervision = lengths_of 2 e;
+        check = lengths_of 5 e ∙ ap (λ (v : ℕ). 24 * (240 - v)) (sym q);
       }
 
-  pub returned : (n k : ℕ) (x b' m' s' g' h' r' : List ℕ) → n ≡ refusal_beside w p o → n ≡ 0 → k ≡ w → length b ≡ carried k → g' ≡ g_bytes_of 0 o → h' ≡ g_bytes_of 16 o → x ≡ interleaving_of o → HandsOut k x b' m' s' r'
+  pub returned : (k : ℕ) (x b' m' s' g' h' r' : List ℕ) → 0 ≡ refusal_beside w p o → k ≡ w → length b ≡ carried k → g' ≡ g_bytes_of 0 o → h' ≡ g_bytes_of 16 o → x ≡ interleaving_of o → HandsOut k x b' m' s' r'
       → Returns fourteen o p (lent b' m' s' g' h' r') 0
   unfolding back_refusal parts_of
-  returned n k x b' m' s' g' h' r' e z q f sg si a out =
+  returned k x b' m' s' g' h' r' e q f sg si a out =
       let W = wide fourteen in
       record {
-        number = rw (← e, z, eq-eqb (length b) (carried w) (rw q at f));
+        number = rw (← e, eq-eqb (length b) (carried w) (rw q at f));
         parts = λ t.
             record {
               information = (out.information ∙ ap₂ (λ (v : ℕ) (y : List ℕ). list (byte_of v y) (carried v)) q a ∙ information_of_lem W o) t;

@@ -39,17 +39,15 @@ Out w x out n = Filled (byte_of w x) 0 (carried w) out n
 -- an upper row of a superblock comes next
 pub record NextRow (w i at : ℕ) (x out : List ℕ) : Type 0 where
   pub wide : Wide w
-  pub array : length x ≡ 5760
   pub row : i < 24
   pub upper : i % 8 < 2
   pub next : at ≡ index_at w i 1
   pub so_far : Out w x out at
 
 -- there is room for the parts that the coding array holds
-pub record Room (w : ℕ) (x b m s r : List ℕ) : Type 0 where
+pub record Room (w : ℕ) (b m s r : List ℕ) : Type 0 where
   pub wide : Wide w
   pub within : w < 240
-  pub array : length x ≡ 5760
   pub information : length b ≡ carried w
   pub management : length m ≡ 24
   pub supervision : length s ≡ 24

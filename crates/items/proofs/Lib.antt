@@ -1,2 +1,3 @@
 pub mod ItemList
 pub mod OnePass
+pub mod PartNames

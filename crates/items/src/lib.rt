@@ -1,159 +1,136 @@
 // One pass over the tag items of an EDI packet: where the value of management and of each stream lies.
 #![tactic(auto)]
 
-ghost use Rattle.std.specs.Prelude.{◌≡◌, ◌+◌, ◌≤◌, min, max, length, take, drop};
+ghost use Rattle.std.specs.Prelude.{◌≡◌, ◌+◌, ◌≤◌, max, length, take, drop};
 ghost use Rattle.items.specs.TagItems.{part_of, number_by};
-ghost use Rattle.items.specs.PassNotes.{more_by, bad_by, LooksAt, Passed};
+ghost use Rattle.items.specs.PassNotes.{met_again, span_of, bad_by, LooksAt, Passed};
 
-// A look at an item: which part it is, whether it is bad, its value's length.
+use frame::Span;
+use refusals::Refusal;
+
+// A look at a sound item: which part it is, and its value's length.
 #[derive(Clone, Copy)]
 struct Seen {
     part: usize,
-    bad: bool,
     len: usize,
 }
 
-// The whole pass, for management, streams 1 to 64 and all others: how often the item was met (none, once, 2 for several), and, of one met once, where
-// its value lies; and the highest stream number. Nothing of them is known where an item is bad.
+// How often the item of a part was met, and, of one met once, where its value lies.
 #[derive(Clone, Copy)]
-pub struct Notes {
-    pub broken: bool,
-    pub highest: usize,
-    pub tallies: [u8; 66],
-    pub starts: [usize; 66],
-    pub lens: [usize; 66],
+pub enum Met {
+    Never,
+    Once(Span),
+    Several,
 }
 
+impl Met {
+    // Once more, with the value there.
+    fn again(self, there: Span) -> Met
+        ensures { result ≡ met_again self there }
+    {
+        match self {
+            Met::Never => Met::Once(there),
+            _ => Met::Several,
+        }
+    }
+
+    // Where the value lies; nothing, at the start, where it was not met once. No Option: `span_of`, by which all places are stated, says 0 and 0 there.
+    pub fn span(self) -> Span
+        ensures { result ≡ span_of self }
+    {
+        match self {
+            Met::Once(span) => span,
+            _ => Span { start: 0, len: 0 },
+        }
+    }
+}
+
+// The whole pass: the parts are management, streams 1 to 64 and all others; and the highest stream number.
+#[derive(Clone, Copy)]
+pub struct Notes {
+    pub highest: usize,
+    pub met: [Met; 66],
+}
+
+// The names: "deti", and "est" with the number of a stream from 1 to 64.
+const DETI: usize = 0x64657469;
+
+const EST1: usize = 0x65737401;
+
+const EST64: usize = 0x65737440;
+
+// Not an enum: a part's number is where it stands among the notes.
+#[tactic(auto, using(crate::proofs::PartNames::parts))]
 fn part(name: usize) -> usize
     ensures { (result ≡ part_of name) × (result ≤ 65) }
 {
-    if name == 0x64657469 {
-        return 0;
+    match name {
+        DETI => 0,
+        EST1..=EST64 => name - EST1 + 1,
+        _ => 65,
     }
-    if name / 256 != 0x657374 {
-        return 65;
-    }
-    let n = name % 256;
-    if n < 1 {
-        return 65;
-    }
-    if n > 64 {
-        return 65;
-    }
-    n
 }
 
+#[tactic(auto, using(octets::proofs::Deciding::tests), unfolding(crate::specs::PassNotes::bad_by))]
 fn bad(bits: usize, left: usize, part: usize) -> bool
     ensures { result ≡ bad_by bits left part }
 {
-    if bits % 8 != 0 {
-        return true;
-    }
-    if left < bits / 8 {
-        return true;
-    }
-    if part < 1 {
-        return false;
-    }
-    if part > 64 {
-        return false;
-    }
-    if bits < 24 {
-        return true;
-    }
-    (bits - 24) % 64 != 0
+    bits % 8 != 0
+        || left < bits / 8
+        || matches!(part, 1..=64) && (bits < 24 || (bits - 24) % 64 != 0)
 }
 
-fn look(rest: &[u8]) -> Seen
+fn look(rest: &[u8]) -> Result<Seen, Refusal>
     requires { 8 ≤ length rest.now }
     ensures { LooksAt rest.now result }
 {
     let part = part(octets::word(rest, 0));
     let bits = octets::word(rest, 4);
-    let bad = bad(bits, rest.len() - 8, part);
-    Seen {
+    if bad(bits, rest.len() - 8, part) {
+        return Err(Refusal::BadItem);
+    }
+    Ok(Seen {
         part,
-        bad,
         len: bits / 8,
-    }
+    })
 }
 
-fn look_at(packet: &[u8], at: usize) -> Seen
-    requires { at + 8 ≤ length packet.now }
-    ensures { LooksAt (drop at packet.now) result }
-{
-    look(&packet[at..])
-}
-
-fn more(tally: u8) -> u8
-    ensures { result ≡ more_by tally }
-{
-    if tally == 0 {
-        return 1;
-    }
-    2
-}
-
+#[tactic(auto, using(octets::proofs::Deciding::tests), unfolding(crate::specs::TagItems::number_by))]
 fn higher(highest: usize, part: usize) -> usize
     ensures { result ≡ max highest (number_by part) }
 {
     if part > 64 {
-        return highest;
+        highest
+    } else {
+        highest.max(part)
     }
-    if part < highest {
-        return highest;
-    }
-    part
 }
 
-pub fn pass(packet: &[u8]) -> Notes
+// What is noted of a packet none of whose items is bad. No `for`: an item's own length says where the next one begins.
+pub fn pass(packet: &[u8]) -> Result<Notes, Refusal>
     ensures { Passed packet.now result }
 {
-    let mut tallies = [0u8; 66];
-    let mut starts = [0usize; 66];
-    let mut lens = [0usize; 66];
+    let mut met = [Met::Never; 66];
     let mut highest = 0;
     let mut at = 0;
     while packet.len() - at >= 8 {
-        let seen = look_at(packet, at);
-        let part = seen.part;
-        let len = seen.len;
-        if seen.bad {
-            return Notes {
-                broken: true,
-                highest,
-                tallies,
-                starts,
-                lens,
-            };
-        }
+        let seen = look(&packet[at..])?;
         let start = at + 8;
-        tallies[part] = more(tallies[part]);
-        starts[part] = start;
-        lens[part] = len;
-        highest = higher(highest, part);
-        at = start + len;
+        let here = Span {
+            start,
+            len: seen.len,
+        };
+        met[seen.part] = met[seen.part].again(here);
+        highest = higher(highest, seen.part);
+        at = start + seen.len;
     }
-    Notes {
-        broken: false,
-        highest,
-        tallies,
-        starts,
-        lens,
-    }
-}
-
-fn less(a: usize, b: usize) -> usize
-    ensures { result ≡ min a b }
-{
-    if a < b { a } else { b }
+    Ok(Notes { highest, met })
 }
 
 // The bytes of a value by its place and length, or what there is of them.
-pub fn value(bytes: &[u8], start: usize, len: usize) -> &[u8]
-    ensures { result.now ≡ take len (drop start bytes.now) }
+pub fn value(bytes: &[u8], span: Span) -> &[u8]
+    ensures { result.now ≡ take span.len (drop span.start bytes.now) }
 {
-    let from = less(start, bytes.len());
-    let end = from + less(len, bytes.len() - from);
-    &bytes[from..end]
+    let rest = &bytes[span.start.min(bytes.len())..];
+    &rest[..span.len.min(rest.len())]
 }

@@ -7,10 +7,6 @@ use Rattle.octets.specs.Choice.{place_in}
 use Rattle.frame.specs.Frame.{statuses, err_of, fsyncs, fsync_of, fct_of, nst_of, fl_of, ficl_of, streams_of, stl_total, fl_by, header_bytes_of, header_sum_of}
 use Rattle.frame.specs.Rules.{Rule, ◌when◌, some_stl_above}
 
-abbrev pub head_rules : ℕ → ℕ → ℕ → ℕ → List Rule
-head_rules fsync level fc nst =
-    (2 when ltb 1 fsync) ∷ (3 when ltb 3 level) ∷ (4 when eqb fc 0xFFFFFFFF) ∷ (5 when ltb 64 nst) ∷ []
-
 abbrev pub body_rules : ℕ → ℕ → ℕ → Bool → ℕ → ℕ → List Rule
 body_rules sum sent fct long fl formula =
     (6 when not (eqb sum sent))
@@ -21,7 +17,12 @@ body_rules sum sent fct long fl formula =
     ∷ []
 
 abbrev pub head_rules_of : List ℕ → List Rule
-head_rules_of f = head_rules (place_in fsyncs (fsync_of f)) (place_in statuses (err_of f)) (word_at f 4) (nst_of f)
+head_rules_of f =
+    (2 when ltb 1 (place_in fsyncs (fsync_of f)))
+    ∷ (3 when ltb 3 (place_in statuses (err_of f)))
+    ∷ (4 when eqb (word_at f 4) 0xFFFFFFFF)
+    ∷ (5 when ltb 64 (nst_of f))
+    ∷ []
 
 abbrev pub body_rules_of : List ℕ → List Rule
 body_rules_of f =

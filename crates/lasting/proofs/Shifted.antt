@@ -13,6 +13,7 @@ use borrow.Author.Tests.{ltb-true, ltb-false}
 use Rattle.octets.specs.Choice.{pick}
 use Rattle.frame.specs.Rules.{refusal_of}
 use Rattle.walk.specs.declared.Item.{Item}
+use Rattle.refusals.specs.Refusals.{refusal_by}
 use Rattle.walk.specs.declared.Item.TheVariants.{Frame, Lost, Idle, Done}
 use Rattle.walk.specs.declared.Position.{Position}
 use Rattle.walk.specs.declared.State.{State}
@@ -52,8 +53,8 @@ module _ (m : ℕ) {d : ℕ} {w v : List ℕ} (S : Sees d w v) where
   item_later p h = rw (S.same p h) (go (eqb (refusal_of (part w p)) 0) (eqb (refusal_of (part w p)) 4))
     where
       go : (a b : Bool) →
-          pick a (Frame (d + p) ((judged m w).header p)) (pick b (Idle (d + p)) (Lost (d + p) (refusal_of (part w p))))
-          ≡ later_item d (pick a (frame_at (judged m w) p) (pick b (Idle p) (Lost p (refusal_of (part w p)))))
+          pick a (Frame (d + p) ((judged m w).header p)) (pick b (Idle (d + p)) (Lost (d + p) (refusal_by (refusal_of (part w p)))))
+          ≡ later_item d (pick a (frame_at (judged m w) p) (pick b (Idle p) (Lost p (refusal_by (refusal_of (part w p))))))
       go true b = refl
       go false true = refl
       go false false = refl

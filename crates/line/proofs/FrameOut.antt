@@ -21,22 +21,26 @@ use Rattle.array.proofs.ThereAndBack.{output_array}
 use Rattle.code.specs.Code.{is_clean}
 use Rattle.coded.specs.Coded.{coded}
 use Rattle.coded.proofs.CodedRows.{row_clean}
-use Rattle.outward.proofs.CodedOut.{asked}
+use Rattle.array.proofs.PartSizes.{one_of_six}
+use Rattle.outward.proofs.CodedOut.{rows_length}
 use Rattle.outward.specs.WayOut.{out_refusal, Sends}
-use Rattle.line.specs.NetworkOut.{logical_length, logical_of, with_frame, frame_refusal, SendsFrame}
+use Rattle.line.specs.NetworkOut.{fl_in, logical_length, logical_of, with_frame, frame_refusal, SendsFrame}
 
 -- FL is the lowest field of FC
-pub lowest : (f : List ℕ) (n : ℕ) → n ≡ word_at f 4 → n % 2048 ≡ fl_of f
+pub lowest : (b : List ℕ) (at n : ℕ) → n ≡ word_at b at → n % 2048 ≡ fl_in b at
+lowest b at n e = let q : n % 2048 ≡ n / 1 % 2048 = omega arith in q ∙ ap (λ (k : ℕ). k / 1 % 2048) e
+
+pub frame_fl : (f : List ℕ) (n : ℕ) → n ≡ fl_in f 4 → n ≡ fl_of f
 unfolding fl_of
-lowest f n e = let q : n % 2048 ≡ n / 1 % 2048 = omega arith in q ∙ ap (λ (k : ℕ). k / 1 % 2048) e
+frame_fl f n e = e
 
 -- an accepted frame has the bytes that its FL calls for
-pub logical_within_lem : (f : List ℕ) (fl n : ℕ) → n ≡ refusal_of f → n ≡ 0 → fl ≡ fl_of f → 4 + (fl + 3) * 4 ≤ length f
-logical_within_lem f fl n e z q = let a = acceptable f (sym e ∙ z) in rw q (omega (arith, a.whole, a.room))
+pub logical_within_lem : (f : List ℕ) (fl : ℕ) → 0 ≡ refusal_of f → fl ≡ fl_of f → 4 + (fl + 3) * 4 ≤ length f
+logical_within_lem f fl e q = let a = acceptable f (sym e) in rw q (omega (arith, a.whole, a.room))
 
 pub logical_length_lem : (f : List ℕ) → refusal_of f ≡ 0 → length (logical_of f) ≡ logical_length f
 logical_length_lem f z =
-    let l = logical_within_lem f (fl_of f) 0 (sym z) refl refl in
+    let l = logical_within_lem f (fl_of f) (sym z) refl in
     rw (add-sub_cancel_left 4 (logical_length f)) (length-take-le (logical_length f) (drop 4 f) (rw length-drop (omega arith)))
 
 module _ (fourteen : Bool) (f m s g h out : List ℕ) where
@@ -48,23 +52,24 @@ module _ (fourteen : Bool) (f m s g h out : List ℕ) where
 
   -- the lengths as they are asked for: those of the rows' check bytes are always right
   pub lengths_asked : (n k : ℕ) → k ≡ w → n ≡ parts_refusal w (length out) (length m) (length s) (length g) (length h) (24 * (240 - k)) → n ≡ refusal_beside w (with_frame w f p) out
-  lengths_asked n k = asked fourteen (logical_of f) m s g h out n k
+  lengths_asked n k q e =
+      e ∙ ap (parts_refusal w (length out) (length m) (length s) (length g) (length h)) (ap (λ (v : ℕ). 24 * (240 - v)) q ∙ sym (rows_length fourteen (logical_of f) m s g h out))
 
-  pub refused_length : (n : ℕ) → n ≡ refusal_beside w (with_frame w f p) out → (n ≡ 0 → ⊥) → SendsFrame fourteen f p out out 1
+  pub refused_length : (n : ℕ) → n ≡ refusal_beside w (with_frame w f p) out → (n ≡ 0 → ⊥) → SendsFrame fourteen f p out out n
   unfolding frame_refusal
-  refused_length n e z = record { number = rw (← e, ne_eqb n 0 z); bytes = refl }
+  refused_length n e z =
+      record { number = one_of_six _ _ _ _ _ _ _ n e z ∙ rw (← e, ne_eqb n 0 z); bytes = rw (ne_eqb n 0 z) }
 
-  pub refused_frame : (n k : ℕ) → n ≡ refusal_beside w (with_frame w f p) out → n ≡ 0 → k ≡ refusal_of f → (k ≡ 0 → ⊥) → SendsFrame fourteen f p out out k
+  pub refused_frame : (k : ℕ) → 0 ≡ refusal_beside w (with_frame w f p) out → k ≡ refusal_of f → (k ≡ 0 → ⊥) → SendsFrame fourteen f p out out k
   unfolding frame_refusal
-  refused_frame n k e z q c = record { number = rw (← e, z, ← q, ne_eqb k 0 c); bytes = rw (ne_eqb k 0 c) }
+  refused_frame k e q c = record { number = rw (← e, ← q, ne_eqb k 0 c); bytes = rw (ne_eqb k 0 c) }
 
-  pub sent : (n k a fl : ℕ) (after : List ℕ) → n ≡ refusal_beside w (with_frame w f p) out → n ≡ 0 → k ≡ refusal_of f → k ≡ 0 → fl ≡ fl_of f → Sends fourteen (coded w (lent (between f 4 (4 + (fl + 3) * 4)) m s g h [])) out after a
+  pub sent : (a fl : ℕ) (after : List ℕ) → 0 ≡ refusal_beside w (with_frame w f p) out → 0 ≡ refusal_of f → fl ≡ fl_of f → Sends fourteen (coded w (lent (between f 4 (4 + (fl + 3) * 4)) m s g h [])) out after a
       → SendsFrame fourteen f p out after a
   unfolding frame_refusal out_refusal
-  sent n k a fl after e z q c d t =
-      let y : refusal_of f ≡ 0 = sym q ∙ c in
+  sent a fl after e q d t =
       record {
-        number = t.number ∙ rw (d, ← e, z, y, logical_length_lem f y);
+        number = t.number ∙ rw (d, ← e, ← q, logical_length_lem f (sym q));
         bytes = t.bytes ∙ rw d;
       }
 

@@ -1,14 +1,19 @@
 -- T-03 and T-05: the way out of a network frame. It is read first; its logical bytes are the information bytes, and FF fills from (FL + 3) x 4 on. The
 -- check bytes are those of the rows.
 -- Assumes nothing.
-use Rattle.std.specs.Prelude.{Bool, List, [], ◌≡◌, ℕ, ◌+◌, ◌*◌, eqb, ltb}
+use Rattle.std.specs.Prelude.{Bool, List, [], ◌≡◌, ℕ, ◌+◌, ◌*◌, eqb, ltb, get_or}
 use Rattle.octets.specs.Choice.{pick}
-use Rattle.frame.specs.Frame.{between, fl_of}
+use Rattle.octets.specs.Words.{split, word_at}
+use Rattle.frame.specs.Frame.{between, fc_widths, fl_of}
 use Rattle.frame.specs.Rules.{refusal_of}
 use Rattle.array.specs.CodingArray.{width_of, carried, Parts, lent}
 use Rattle.array.specs.OutputArray.{output_of}
 use Rattle.array.specs.PartLengths.{refusal_beside}
 use Rattle.coded.specs.Coded.{coded}
+
+-- FL, the lowest field of the FC that begins at a byte
+abbrev pub fl_in : List ℕ → ℕ → ℕ
+fl_in b at = get_or (split fc_widths (word_at b at)) 5 0
 
 -- the bytes of the logical frame, clause 5.3.6: FL words, the one before them and the two behind them
 abbrev pub logical_length : List ℕ → ℕ

@@ -2,18 +2,20 @@
 #![tactic(auto)]
 
 ghost use Rattle.std.specs.Prelude.{◌≡◌, [], ◌<◌};
-ghost use Rattle.frame.specs.Frame.{fl_of};
 ghost use Rattle.array.specs.CodingArray.{lent};
-ghost use Rattle.line.specs.NetworkOut.{SendsFrame};
+ghost use Rattle.line.specs.NetworkOut.{fl_in, SendsFrame};
+ghost use Rattle.refusals.specs.Refusals.{outcome_number};
 
-// FL of a frame.
-fn fl(frame: &[u8]) -> usize
-    ensures { (result ≡ fl_of frame.now) × (result < 2048) }
+use refusals::Refusal;
+
+// FL of the FC that begins at a place: at byte 4 of a frame, at the first of its information.
+pub fn fl(bytes: &[u8], at: usize) -> usize
+    ensures { (result ≡ fl_in bytes.now at) × (result < 2048) }
 {
-    octets::word(frame, 4) % 2048
+    octets::word(bytes, at) % 2048
 }
 
-// The output array of a network frame, the parts beside it and its rows' check bytes, or a refusal's number: 1 for a part's length, reading's, then 23.
+// The output array of a network frame, the parts beside it and its rows' check bytes. Refused for a part's length, then for reading's reasons, then for being too long.
 pub fn out(
     frame: &[u8],
     fourteen: bool,
@@ -22,27 +24,20 @@ pub fn out(
     synchronising: &[u8],
     signalling: &[u8],
     output: &mut [u8],
-) -> u8
-    ensures { SendsFrame fourteen frame.now (lent [] management.now supervision.now synchronising.now signalling.now []) output.old output.new result }
+) -> Result<(), Refusal>
+    ensures { SendsFrame fourteen frame.now (lent [] management.now supervision.now synchronising.now signalling.now []) output.old output.new (outcome_number result) }
 {
-    let w = array::width(fourteen);
-    let wrong = array::lengths(
+    array::lengths(
         fourteen,
         output.len(),
         management.len(),
         supervision.len(),
         synchronising.len(),
         signalling.len(),
-        24 * (240 - w),
-    );
-    if wrong != 0 {
-        return 1;
-    }
-    let refusal = judging::judge(frame);
-    if refusal != 0 {
-        return refusal;
-    }
-    let end = 4 + (fl(frame) + 3) * 4;
+        24 * (240 - array::width(fourteen)),
+    )?;
+    judging::judge(frame)?;
+    let end = 4 + (fl(frame, 4) + 3) * 4;
     outward::out_coded(
         &frame[4..end],
         fourteen,

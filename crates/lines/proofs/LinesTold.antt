@@ -15,7 +15,10 @@ use Rattle.line.specs.NetworkOut.{SendsFrame}
 use Rattle.remade.specs.Remaking.{MakesFrame}
 use Rattle.code.specs.Code.{is_clean}
 use Rattle.code.specs.CodeAnswers.{Tests}
-use Rattle.code.specs.declared.TestedRow.{TestedRow}
+use Rattle.std.proofs.Common.{Ok, Err}
+use Rattle.refusals.specs.declared.Refusal.{Refusal}
+use Rattle.refusals.specs.Refusals.{refusal_number}
+use Rattle.refusals.proofs.Numbers.{above_zero}
 use Rattle.lines.specs.LinesBoundary.{digit, variant_refusal, is_other, LineOut, LineBack, LineRows, LineFrame, RowTold}
 
 module _ (variant n : ℕ) (e : n ≡ variant_refusal variant) where
@@ -52,12 +55,12 @@ module _ (row : List ℕ) (check : ℕ) (before : List ℕ) where
   pub not-one : (length before ≡ 1 → ⊥) → RowTold row check before before 1
   not-one h = record { number = rw (ne_eqb (length before) 1 h); bytes = refl }
 
-  pub row_refused : (t : TestedRow) → length before ≡ 1 → Tests row check t → (t.refusal ≡ 0 → ⊥) → RowTold row check before before t.refusal
-  row_refused t h k z = record { number = k.number ∙ rw h; bytes = rw (ne_eqb t.refusal 0 z) }
+  pub row_refused : (r : Refusal) → length before ≡ 1 → Tests row check (Err r) → RowTold row check before before (refusal_number r)
+  row_refused r h k = record { number = k.number ∙ rw h; bytes = rw (ne_eqb (refusal_number r) 0 (above_zero r)) }
 
-  pub row_told : (t : TestedRow) (after : List ℕ) → length before ≡ 1 → Tests row check t → t.refusal ≡ 0 → after ≡ digit t.clean ∷ [] → RowTold row check before after 0
-  row_told t after h k z a =
+  pub row_told : (clean : Bool) (v : ℕ) → length before ≡ 1 → Tests row check (Ok clean) → v ≡ digit clean → RowTold row check before (set before 0 v) 0
+  row_told clean v h k a =
       record {
-        number = sym z ∙ k.number ∙ rw h;
-        bytes = a ∙ ap (λ (b : Bool). digit b ∷ []) (let c : t.clean ≡ is_clean check row = (rw z at k.told) in c);
+        number = k.number ∙ rw h;
+        bytes = one_byte before v h ∙ rw (a, k.told);
       }

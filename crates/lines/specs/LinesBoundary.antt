@@ -1,8 +1,10 @@
 -- The leased lines on byte slices, for C. The variant is its number of information bytes, 5592 or 5376; another is refused with 12, before any length.
 -- Assumes nothing.
-use Rattle.std.specs.Prelude.{Bool, not, List, [], ◌∷◌, ◌≡◌, ℕ, eqb, length}
+use Rattle.std.specs.Prelude.{Bool, not, List, [], ◌∷◌, Result, ◌≡◌, ℕ, eqb, length, IfOk}
 pub use Rattle.sum.specs.Sum.{digit}
 use Rattle.octets.specs.Choice.{pick}
+use Rattle.refusals.specs.declared.Refusal.{Refusal}
+use Rattle.refusals.specs.Refusals.{outcome_number}
 use Rattle.array.specs.CodingArray.{width_of, Parts}
 use Rattle.array.specs.OutputArray.{output_of, parts_of}
 use Rattle.homeward.specs.WayBack.{back_refusal}
@@ -14,6 +16,11 @@ use Rattle.code.specs.CodeAnswers.{row_refusal}
 
 unfoldable pub variant_refusal : ℕ → ℕ
 variant_refusal variant = pick (eqb variant 5592) 0 (pick (eqb variant 5376) 0 12)
+
+-- whether a row of the variant has fourteen check bytes, where it is one
+pub record Fourteen (variant : ℕ) (r : Result Bool Refusal) : Type 0 where
+  pub number : outcome_number r ≡ variant_refusal variant
+  pub told : IfOk r (λ fourteen. fourteen ≡ eqb variant 5376)
 
 -- the variant's width, where it is one
 abbrev pub width_by : ℕ → ℕ

@@ -1,22 +1,23 @@
 // The leased lines on byte slices, for C: out, back, clean rows, the frame made again, check bytes, a row's test.
 #![tactic(auto)]
 
-ghost use Rattle.std.specs.Prelude.{[], ◌∷◌, ◌≡◌, length};
+ghost use Rattle.std.specs.Prelude.{[]};
 ghost use Rattle.array.specs.CodingArray.{lent};
 ghost use Rattle.code.specs.CodeAnswers.{Checks};
-ghost use Rattle.lines.specs.LinesBoundary.{digit, variant_refusal, LineOut, LineBack, LineRows, LineFrame, RowTold};
+ghost use Rattle.lines.specs.LinesBoundary.{Fourteen, LineOut, LineBack, LineRows, LineFrame, RowTold};
 
-// The variant is 5592 or 5376.
-fn variant_refusal(variant: usize) -> u8
-    ensures { result ≡ variant_refusal variant }
+use refusals::Refusal;
+
+// Whether a row of the variant has fourteen check bytes. The variant is 5592 or 5376.
+#[tactic(auto, using(octets::proofs::Deciding::tests), unfolding(crate::specs::LinesBoundary::variant_refusal))]
+fn fourteen(variant: usize) -> Result<bool, Refusal>
+    ensures { Fourteen variant result }
 {
-    if variant == 5592 {
-        return 0;
+    match variant {
+        5592 => Ok(false),
+        5376 => Ok(true),
+        _ => Err(Refusal::TooWide),
     }
-    if variant == 5376 {
-        return 0;
-    }
-    12
 }
 
 #[unsafe(no_mangle)]
@@ -31,18 +32,18 @@ pub extern "C" fn spindlewren_line_out(
 ) -> u8
     ensures { LineOut variant frame.now (lent [] management.now supervision.now synchronising.now signalling.now []) output.old output.new result }
 {
-    if variant_refusal(variant) != 0 {
-        return 12;
-    }
-    line::out(
+    let Ok(fourteen) = fourteen(variant) else {
+        return Refusal::TooWide.number();
+    };
+    refusals::outcome(line::out(
         frame,
-        variant == 5376,
+        fourteen,
         management,
         supervision,
         synchronising,
         signalling,
         output,
-    )
+    ))
 }
 
 #[unsafe(no_mangle)]
@@ -58,19 +59,19 @@ pub extern "C" fn spindlewren_line_back(
 ) -> u8
     ensures { LineBack variant output.now (lent information.old management.old supervision.old synchronising.old signalling.old check.old) (lent information.new management.new supervision.new synchronising.new signalling.new check.new) result }
 {
-    if variant_refusal(variant) != 0 {
-        return 12;
-    }
-    homeward::back(
+    let Ok(fourteen) = fourteen(variant) else {
+        return Refusal::TooWide.number();
+    };
+    refusals::outcome(homeward::back(
         output,
-        variant == 5376,
+        fourteen,
         information,
         management,
         supervision,
         synchronising,
         signalling,
         check,
-    )
+    ))
 }
 
 // Which of the 24 rows of an output array are clean, a byte for each.
@@ -78,10 +79,10 @@ pub extern "C" fn spindlewren_line_back(
 pub extern "C" fn spindlewren_line_rows(output: &[u8], variant: usize, clean: &mut [u8]) -> u8
     ensures { LineRows variant output.now clean.old clean.new result }
 {
-    if variant_refusal(variant) != 0 {
-        return 12;
-    }
-    homeward::rows(output, variant == 5376, clean)
+    let Ok(fourteen) = fourteen(variant) else {
+        return Refusal::TooWide.number();
+    };
+    refusals::outcome(homeward::rows(output, fourteen, clean))
 }
 
 // The frame of the information, with the sync word 07 3A B6 where the choice is 0 and F8 C5 49 where it is another.
@@ -95,28 +96,17 @@ pub extern "C" fn spindlewren_line_frame(
 ) -> u8
     ensures { LineFrame variant choice level information.now frame.old frame.new result }
 {
-    if variant_refusal(variant) != 0 {
-        return 12;
-    }
-    remade::frame(information, variant == 5376, choice != 0, level, frame)
+    let Ok(fourteen) = fourteen(variant) else {
+        return Refusal::TooWide.number();
+    };
+    refusals::outcome(remade::frame(information, fourteen, choice != 0, level, frame))
 }
 
 #[unsafe(no_mangle)]
 pub extern "C" fn spindlewren_check_bytes(information: &[u8], check: &mut [u8]) -> u8
     ensures { Checks information.now check.old check.new result }
 {
-    code::check_bytes(information, check)
-}
-
-fn put_clean(clean: bool, out: &mut [u8])
-    requires { length out.old ≡ 1 }
-    ensures { out.new ≡ digit clean ∷ [] }
-{
-    if clean {
-        out[0] = 1;
-        return;
-    }
-    out[0] = 0;
+    refusals::outcome(code::check_bytes(information, check))
 }
 
 #[unsafe(no_mangle)]
@@ -124,14 +114,13 @@ pub extern "C" fn spindlewren_test_row(row: &[u8], check: usize, clean: &mut [u8
     ensures { RowTold row.now check clean.old clean.new result }
 {
     if clean.len() != 1 {
-        return 1;
+        return Refusal::Length.number();
     }
-    let tested = code::test_row(row, check);
-    let refusal = tested.refusal;
-    let found = tested.clean;
-    if refusal != 0 {
-        return refusal;
+    match code::test_row(row, check) {
+        Ok(found) => {
+            clean[0] = u8::from(found);
+            0
+        }
+        Err(refusal) => refusal.number(),
     }
-    put_clean(found, clean);
-    0
 }

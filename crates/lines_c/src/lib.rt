@@ -1,4 +1,5 @@
 // The leased lines, for C: the exports of the archive `lines`.
+// The exports stand here once more, since no crate can be built on a static library, and others are built on `lines`.
 #![tactic(auto)]
 
 ghost use Rattle.std.specs.Prelude.{[]};

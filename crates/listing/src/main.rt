@@ -3,62 +3,41 @@
 
 ghost use Rattle.std.specs.Prelude.{◌≤◌, length};
 
+use std::fmt;
 use std::io::{self, Read};
-use walk::{Begun, Item, State};
+use walk::{Item, State};
 
-fn text(rt: &impl Print, words: &[u8]) -> io::Result<()> {
-    rt.write_all(words)
-}
+// An item's line: PLACE KIND CODE LEVEL.
+#[derive(Drop)]
+struct Line(Item);
 
-fn number(rt: &impl Print, n: usize) -> io::Result<()> {
-    print!(rt; "{n}")
-}
-
-// PLACE KIND CODE
-fn item_line(rt: &impl Print, place: usize, kind: &[u8], code: u8) -> io::Result<()> {
-    number(rt, place)?;
-    text(rt, kind)?;
-    number(rt, code as usize)
-}
-
-// The item's line. False where the walk is done.
-fn show(rt: &impl Print, item: Item) -> io::Result<bool> {
-    match item {
-        Item::Frame(p, h) => {
-            item_line(rt, p, b" frame ", h.fct)?;
-            text(rt, b" ")?;
-            number(rt, h.level as usize)?;
-            text(rt, b"\n")?;
-            Ok(true)
-        }
-        Item::Lost(p, n) => {
-            item_line(rt, p, b" lost ", n)?;
-            text(rt, b" -\n")?;
-            Ok(true)
-        }
-        Item::Idle(p) => {
-            item_line(rt, p, b" idle ", 4)?;
-            text(rt, b" -\n")?;
-            Ok(true)
-        }
-        Item::Done(p) => {
-            text(rt, b"end ")?;
-            number(rt, p)?;
-            text(rt, b"\n")?;
-            Ok(false)
+impl fmt::Display for Line {
+    fn fmt<W: fmt::Write>(&self, f: &mut fmt::Formatter<W>) -> fmt::Result {
+        match self.0 {
+            Item::Frame(place, h) => {
+                let fct = h.fct;
+                let level = h.level;
+                write!(f, "{place} frame {fct} {level}")
+            }
+            Item::Lost(place, refusal) => {
+                let number = refusal.number();
+                write!(f, "{place} lost {number} -")
+            }
+            Item::Idle(place) => write!(f, "{place} idle 4 -"),
+            Item::Done(place) => write!(f, "end {place}"),
         }
     }
 }
 
 // A record of n bytes has at most n items before it is done.
 fn list(rt: &impl Print, record: &[u8], start: State) -> io::Result<()> {
-    text(rt, b"place kind code level\n")?;
+    println!(rt; "place kind code level")?;
     let mut walk = start;
     for _ in 0..65536 {
         let step = walk.step(record);
-        let item = step.item;
         walk = step.walk;
-        if !show(rt, item)? {
+        println!(rt; "{}", Line(step.item))?;
+        if let Item::Done(_) = step.item {
             break;
         }
     }
@@ -85,16 +64,16 @@ fn main(rt: HostRuntime) -> io::Result<()> {
     let mut bytes = [0u8; 65536];
     let n = read_full(&mut input, &mut bytes);
     if n > 61440 {
-        return text(&rt, b"too long\n");
+        return println!(&rt; "too long");
     }
     // read_full takes an error for the end; asked once more, only the end answers 0
     let mut more = [0u8; 4096];
     match input.read(&mut more) {
         Ok(0) => {}
-        _ => return text(&rt, b"cannot read\n"),
+        _ => return println!(&rt; "cannot read"),
     }
     match walk::begin(3) {
-        Begun::Walk(start) => list(&rt, &bytes[..n], start),
-        Begun::Refused(_) => text(&rt, b"limit refused\n"),
+        Ok(start) => list(&rt, &bytes[..n], start),
+        Err(_) => println!(&rt; "limit refused"),
     }
 }

@@ -35,7 +35,7 @@ module _ (more : Bool) (m k : ℕ) (lock : Bool) where
     unfolding wants
     wants_outside z = rw (number_outside m (λ e. z (q ∙ e)), and-false)
 
-    pub wants_hunting : more ≡ true → n ≡ 0 → lock ≡ false → true ≡ wants more m k lock
+    pub wants_hunting : more ≡ true → n ≡ 0 → lock ≡ false → not lock ≡ wants more m k lock
     unfolding wants
     wants_hunting e z l = rw (e, number_allowed m (sym q ∙ z), l)
 

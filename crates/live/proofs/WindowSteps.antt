@@ -47,6 +47,14 @@ pub lock_gives : (w : List ℕ) (m : ℕ) → allowed m ≡ true → (p k : ℕ)
 unfolding judged step_with
 lock_gives w m ok p k room few = ap (λ (r : Step). is_done r.item) (step_is w m ok (locked p k)) ∙ ap is_done (lock_item (judged m w) (lit< tt) p k room few) ∙ item_is (judged m w) p
 
+-- an item that is not done
+pub not-done : (x : Item) → ((p : ℕ) → x ≡ Done p → ⊥) → false ≡ is_done x
+unfolding is_done
+not-done (Frame p h) f = refl
+not-done (Lost p n) f = refl
+not-done (Idle p) f = refl
+not-done (Done p) f = absurd (f p refl)
+
 -- an item that is done
 pub is_done_lem : (x : Item) → is_done x ≡ true → (p : ℕ) × (x ≡ Done p)
 unfolding is_done

@@ -10,6 +10,7 @@ use frame::Stream;
 use walk::{Item, Position, State, Step};
 
 // What a step tells: the next item, with its place in the line, or that more bytes are wanted: all before that place may be forgotten.
+// Not a Result: a line that wants more bytes is refused nothing.
 #[derive(Clone, Copy)]
 pub enum Told {
     Got(Item),
@@ -25,33 +26,24 @@ pub struct LiveStep {
 }
 
 // No place of a line is beyond 2^63.
-const FAR: usize = 0x8000000000000000;
+pub const FAR: usize = 0x8000000000000000;
 
 fn is_done(item: Item) -> bool
     ensures { result ≡ is_done item }
 {
-    match item {
-        Item::Frame(_, _) => false,
-        Item::Lost(_, _) => false,
-        Item::Idle(_) => false,
-        Item::Done(_) => true,
-    }
+    matches!(item, Item::Done(_))
 }
 
 // The walk at another place.
 fn placed(walk: State, place: usize) -> State
     ensures { result ≡ placed_at place walk }
 {
-    let limit = walk.limit;
-    let misses = walk.position.misses;
-    let lock = walk.position.lock;
     State {
-        limit,
         position: Position {
             place,
-            misses,
-            lock,
+            ..walk.position
         },
+        ..walk
     }
 }
 
@@ -72,14 +64,11 @@ fn telling(found: Step, by: usize) -> LiveStep
     requires { Telling found by }
     ensures { result ≡ telling_at by found }
 {
-    let item = found.item;
     let table = found.table;
-    let walk = found.walk;
-    let place = by + walk.position.place;
     LiveStep {
-        told: Told::Got(later_item(item, by)),
+        told: Told::Got(later_item(found.item, by)),
         table,
-        walk: placed(walk, place),
+        walk: placed(found.walk, by + found.walk.position.place),
     }
 }
 
@@ -109,33 +98,20 @@ fn over(walk: State) -> LiveStep
 }
 
 // Whether a walk that is done over what is there would go on with more bytes: not if the line has ended, nor if the walk has ended by itself.
-fn goes_on(more: bool, limit: usize, misses: usize, lock: bool) -> bool
-    ensures { result ≡ wants more limit misses lock }
+pub fn goes_on(walk: State, more: bool) -> bool
+    ensures { result ≡ wants more walk.limit walk.position.misses walk.position.lock }
 {
-    if !more {
-        return false;
-    }
-    if walk::limit_refusal(limit) != 0 {
-        return false;
-    }
-    if !lock {
-        return true;
-    }
-    misses < limit
+    more && walk::limit_refusal(walk.limit).is_ok()
+        && (!walk.position.lock || walk.position.misses < walk.limit)
 }
 
 // The first place from one on that stands, or the first from which no period is there.
 fn first_standing(window: &[u8], from: usize) -> usize
     ensures { result ≡ standing window.now from }
 {
-    let n = window.len();
-    if n < 6144 {
-        return from;
-    }
     let mut p = periods::next_mark(window, from);
-    while p <= n - 6144 {
-        let e = p + 6144;
-        if judging::judge(&window[p..e]) == 0 {
+    while periods::whole(window, p) {
+        if periods::judge_at(window, p).is_ok() {
             return p;
         }
         p = periods::next_mark(window, p + 1);
@@ -158,8 +134,7 @@ fn hunting(walk: State, window: &[u8]) -> LiveStep
         return waiting(walk, first);
     }
     let found = placed(walk, first).step(window);
-    let item = found.item;
-    if is_done(item) {
+    if is_done(found.item) {
         return waiting(walk, first_standing(window, n - 12287));
     }
     telling(found, place)
@@ -181,22 +156,17 @@ fn in_lock(walk: State, window: &[u8]) -> LiveStep
 pub fn step(walk: State, window: &[u8], more: bool) -> LiveStep
     ensures { result ≡ live_at window.now more walk }
 {
-    let limit = walk.limit;
     let place = walk.position.place;
-    let misses = walk.position.misses;
-    let lock = walk.position.lock;
     let n = window.len();
-    if n >= FAR {
+    if n >= FAR || place >= FAR - n {
         return over(walk);
     }
-    if place >= FAR - n {
-        return over(walk);
-    }
-    if !goes_on(more, limit, misses, lock) {
+    if !goes_on(walk, more) {
         return telling(placed(walk, 0).step(window), place);
     }
-    if lock {
-        return in_lock(walk, window);
+    if walk.position.lock {
+        in_lock(walk, window)
+    } else {
+        hunting(walk, window)
     }
-    hunting(walk, window)
 }

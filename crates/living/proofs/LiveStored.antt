@@ -5,39 +5,30 @@ use mathlib.Core.List.{List}
 use mathlib.Core.Path.{◌≡◌, sym, ap, ◌∙◌}
 use Prim.Native.Nat.{ℕ, ◌+◌, ◌≤◌, ◌<◌}
 use native.Mathlib.Omega.{arith}
-use lib.Dec.{ltb}
 use lib.ListN.{length, get_or}
 use borrow.Author.Tests.{lt-ltb, le-ltb}
 use Rattle.octets.specs.Stores.{put}
 use Rattle.octets.proofs.Storing.{put_all}
-use Rattle.frame.specs.Answers.{digit}
 use Rattle.walk.specs.declared.State.{State}
-use Rattle.walk.specs.Records.{limit_refusal_of}
 use Rattle.block.specs.WalkBytes.{told_bytes}
 use Rattle.live.specs.declared.Told.{Told}
+use Rattle.live.specs.declared.Told.TheVariants.{More}
 use Rattle.live.specs.Live.{placed_at, later, wants, waiting, waiting_at, far, live_at}
-use Rattle.live.proofs.LiveParts.{wants_hunting, wants_lock, wants_now, live_now, lock_waits, hunt_waits}
+use Rattle.live.proofs.LiveParts.{wants_now, live_now, lock_waits, hunt_waits}
 use Rattle.living.specs.LiveBytes.{live_bytes, held_by, live_refusal_of}
 
 -- ---- more bytes wanted with no place looked at
-pub told_false : (A : Type 0) → false ≡ true → A
-told_false A e = let z : ◌≡◌ {A = ℕ} 0 1 = ap digit e in absurd (omega arith)
-
-module _ (s : State) (n : ℕ) (more : Bool) (near : s.position.place + n < far) (asked : more ≡ true) (k : ℕ) (e : k ≡ limit_refusal_of s.limit) (z : k ≡ 0) (w : List ℕ) (whole : length w ≡ n) where
-  now_is : wants more s.limit s.position.misses s.position.lock ≡ true → waiting_at 0 s ≡ live_at w true s → live_at w more s ≡ waiting_at 0 s
-  now_is m p = sym (p ∙ live_now w more s m)
+module _ (s : State) (n : ℕ) (more : Bool) (near : s.position.place + n < far) (wanted : wants more s.limit s.position.misses s.position.lock ≡ true) (w : List ℕ) (whole : length w ≡ n) where
+  now_is : waiting_at 0 s ≡ live_at w true s → live_at w more s ≡ waiting_at 0 s
+  now_is p = sym (p ∙ live_now w more s wanted)
 
   pub hunting_waits : s.position.lock ≡ false → n < 12288 → live_at w more s ≡ waiting_at 0 s
-  hunting_waits l h =
-      let m = sym (wants_hunting more s.limit s.position.misses s.position.lock k e asked z l) in
-      now_is m (hunt_waits w s (record { near = omega arith; wanted = wants_now more _ _ _ m; hunting = l }) (omega arith))
+  hunting_waits l h = now_is (hunt_waits w s (record { near = omega arith; wanted = wants_now more _ _ _ wanted; hunting = l }) (omega arith))
 
-  pub locked_waits : s.position.lock ≡ true → n < 6144 → ltb s.position.misses s.limit ≡ true → live_at w more s ≡ waiting_at 0 s
-  locked_waits l h few =
-      let m = sym (wants_lock more s.limit s.position.misses s.position.lock k e asked z l) ∙ few in
-      now_is m (lock_waits w s (record { near = omega arith; wanted = wants_now more _ _ _ m; locked = l }) (omega arith))
+  pub locked_waits : s.position.lock ≡ true → n < 6144 → live_at w more s ≡ waiting_at 0 s
+  locked_waits l h = now_is (lock_waits w s (record { near = omega arith; wanted = wants_now more _ _ _ wanted; locked = l }) (omega arith))
 
-pub waiting_left : (l a : List ℕ) (s : State) → length l ≡ 23 → a ≡ put l 0 (told_bytes s 4 0 s.position.place 0 0) → a ≡ held_by (waiting_at 0 s)
+pub waiting_left : (l a : List ℕ) (s : State) → length l ≡ 23 → a ≡ put l 0 (live_bytes (More s.position.place) s) → a ≡ held_by (waiting_at 0 s)
 unfolding live_bytes told_bytes waiting_at waiting later
 waiting_left l a s o p =
     let e : s.position.place ≡ 0 + s.position.place = omega arith in

@@ -7,40 +7,19 @@ ghost use Rattle.controller.specs.Boundary;
 ghost use Rattle.live.specs.Live.{live_at, waiting_at};
 ghost use Rattle.living.specs.LiveBytes.{live_bytes, live_refusal_of, live_of};
 
-use live::Told;
+use live::{FAR, Told};
+use refusals::Refusal;
 use walk::State;
-
-// No place of a line is beyond 2^63.
-const FAR: usize = 0x8000000000000000;
 
 // Whether more bytes are wanted with no place looked at: the walk goes on with them, and of the n that are there in lock a period is not whole, hunting two are not. It may
 // err to one side, and is here for time alone: most calls over short pieces end with it.
 fn waits(state: State, n: usize, more: bool) -> bool
     ensures { result ≡ true → (w : List ℕ) → length w ≡ n → live_at w more state ≡ waiting_at 0 state }
 {
-    let limit = state.limit;
-    let place = state.position.place;
-    let misses = state.position.misses;
-    let lock = state.position.lock;
-    if n >= 12288 {
-        return false;
-    }
-    if place >= FAR - n {
-        return false;
-    }
-    if !more {
-        return false;
-    }
-    if walk::limit_refusal(limit) != 0 {
-        return false;
-    }
-    if !lock {
-        return true;
-    }
-    if n >= 6144 {
-        return false;
-    }
-    misses < limit
+    n < 12288
+        && state.position.place < FAR - n
+        && live::goes_on(state, more)
+        && (!state.position.lock || n < 6144)
 }
 
 // The advanced walk in eleven bytes, and what is told in twelve.
@@ -60,23 +39,20 @@ pub extern "C" fn spindlewren_live(window: &[u8], more: u8, walk: &mut [u8]) -> 
     ensures { Boundary.Told 23 (live_refusal_of more walk.old) (live_of window.now more walk.old) walk.old walk.new result }
 {
     if walk.len() != 23 {
-        return 1;
+        return Refusal::Length.number();
     }
     if walk[9] > 1 {
-        return 12;
+        return Refusal::TooWide.number();
     }
     if more > 1 {
-        return 12;
+        return Refusal::TooWide.number();
     }
     let state = block::state_in(walk);
     if waits(state, window.len(), more == 1) {
-        let place = state.position.place;
-        block::put_told(walk, state, 4, 0, place, 0, 0);
+        put_live(walk, state, Told::More(state.position.place));
         return 0;
     }
     let step = live::step(state, window, more == 1);
-    let told = step.told;
-    let next = step.walk;
-    put_live(walk, next, told);
+    put_live(walk, step.walk, step.told);
     0
 }

@@ -1,4 +1,5 @@
 // The walk over a live line, for C: the export of the archive `living`.
+// The exports stand here once more, since no crate can be built on a static library, and others are built on `living`.
 #![tactic(auto)]
 
 ghost use Rattle.controller.specs.Boundary;

@@ -1,13 +1,13 @@
 // Logs on numbers and byte slices, for C.
 #![tactic(auto)]
 
-ghost use Rattle.std.specs.Prelude.{[], ◌∷◌, ◌≡◌, ◌*◌, length};
-ghost use Rattle.octets.specs.Stores.{put};
-ghost use Rattle.nightlog.specs.Log.{entry_from, entry_refusal_of, WritesEntry};
+ghost use Rattle.std.specs.Prelude.{◌≡◌, ◌*◌};
+ghost use Rattle.nightlog.specs.Log.{judged_number, judged_bad, entry_from, entry_refusal_of, WritesEntry};
 ghost use Rattle.controller.specs.Boundary.{Told};
 ghost use Rattle.logs.specs.LogBytes.{judged_bytes, entry_bytes};
 
-use nightlog::Entry;
+use nightlog::{BadLog, Entry};
+use refusals::Refusal;
 
 // An item into sixteen lent bytes: 37 for another length, then 29 for a kind, code or level that is not allowed; refused, not one byte is written.
 #[unsafe(no_mangle)]
@@ -26,14 +26,18 @@ pub extern "C" fn spindlewren_log_write(
         code,
         level,
     };
-    nightlog::write(entry, out)
+    refusals::outcome(nightlog::write(entry, out))
 }
 
-fn put_number(out: &mut [u8], number: u8)
-    requires { length out.old ≡ 9 }
-    ensures { out.new ≡ put out.old 0 (number ∷ []) }
+// What C is told of a judged log: its number, and the bad record for 29.
+fn told(judged: Result<(), BadLog>) -> (u8, usize)
+    ensures { (result.0 ≡ judged_number judged) × (result.1 ≡ judged_bad judged) }
 {
-    out[0] = number;
+    match judged {
+        Ok(()) => (0, 0),
+        Err(BadLog::Length) => (Refusal::LogLength.number(), 0),
+        Err(BadLog::Record(bad)) => (Refusal::NotAllowed.number(), bad),
+    }
 }
 
 // A log judged, into nine lent bytes: 1 for another length.
@@ -42,31 +46,12 @@ pub extern "C" fn spindlewren_log_judged(bytes: &[u8], out: &mut [u8]) -> u8
     ensures { Told 9 0 (judged_bytes bytes.now) out.old out.new result }
 {
     if out.len() != 9 {
-        return 1;
+        return Refusal::Length.number();
     }
-    let verdict = nightlog::judge(bytes);
-    let number = verdict.number;
-    let bad = verdict.bad;
-    put_number(out, number);
+    let (number, bad) = told(nightlog::judge(bytes));
+    putting::put_bytes(out, 0, &[number]);
     putting::put8(out, 1, bad);
     0
-}
-
-fn put_values(out: &mut [u8], kind: u8, code: u8, level: u8)
-    requires { length out.old ≡ 11 }
-    ensures { out.new ≡ put out.old 8 (kind ∷ code ∷ level ∷ []) }
-{
-    out[8] = kind;
-    out[9] = code;
-    out[10] = level;
-}
-
-fn put_entry(out: &mut [u8], entry: Entry)
-    requires { length out.old ≡ 11 }
-    ensures { out.new ≡ entry_bytes entry }
-{
-    putting::put8(out, 0, entry.place);
-    put_values(out, entry.kind, entry.code, entry.level);
 }
 
 // Record i of a log, into eleven lent bytes: 1 for another length, then 28, 34 where there is no such record, 29 where it is bad.
@@ -75,14 +60,14 @@ pub extern "C" fn spindlewren_log_entry(bytes: &[u8], i: usize, out: &mut [u8]) 
     ensures { Told 11 (entry_refusal_of bytes.now i) (entry_bytes (entry_from bytes.now (16 * i))) out.old out.new result }
 {
     if out.len() != 11 {
-        return 1;
+        return Refusal::Length.number();
     }
-    let found = nightlog::read(bytes, i);
-    let number = found.number;
-    let entry = found.entry;
-    if number != 0 {
-        return number;
+    match nightlog::read(bytes, i) {
+        Ok(entry) => {
+            putting::put8(out, 0, entry.place);
+            putting::put_bytes(out, 8, &[entry.kind, entry.code, entry.level]);
+            0
+        }
+        Err(refusal) => refusal.number(),
     }
-    put_entry(out, entry);
-    0
 }

@@ -15,7 +15,11 @@ use Rattle.walk.specs.Walk.{Judged, confirmed, live, keeps, look_locked, look_hu
 use Rattle.walk.specs.Records.{part, judged, NoneStands, limit_refusal_of}
 use Rattle.walk.proofs.Limits.{allowed_is, number_allowed, number_outside}
 use Rattle.walk.proofs.Stepping.{unconfirmed, no_second, as_locked, as_hunting}
-use Rattle.looks.specs.declared.Counted.TheVariants.{Tests, Refused}
+use Rattle.std.specs.Prelude.{Ok, Err}
+use Rattle.refusals.specs.declared.Refusal.{Refusal}
+use Rattle.refusals.specs.Refusals.{refusal_number}
+use Rattle.refusals.proofs.Numbers.{above_zero}
+use Rattle.walk.proofs.ByRules.{further, by_rules}
 use Rattle.looks.specs.declared.Tally.{Tally}
 use Rattle.looks.specs.Testing.{tests_at, tests_from, tests_of, CountsTests}
 use Rattle.looks.specs.CountClauses.{tally, Counts}
@@ -104,8 +108,8 @@ module _ (limit : ℕ) (bytes : List ℕ) where
   over p q k m = over_in (q - p) p q k (omega (arith, m.ahead)) m
 
   -- ---- what the code counts while hunting
-  module _ (p q k : ℕ) (m : NoneStands bytes p q) (r : Tally) where
-    pub over_end : p + 6144 ≤ length bytes → length bytes < q + 6144 → r ≡ tally (q - p) (hunting q k) → Counts limit bytes (hunting p k) r
+  module _ (p q k : ℕ) (m : NoneStands bytes p q) (w : Position) where
+    pub over_end : p + 6144 ≤ length bytes → length bytes < q + 6144 → w ≡ hunting q k → Counts limit bytes (hunting p k) (tally (q - p) w)
     over_end h l e = rw e (record { same = over p q k m; moves = omega arith; fresh = λ z. clash (sym z) })
 
     module _ (room : q + 6144 ≤ length bytes) where
@@ -115,39 +119,52 @@ module _ (limit : ℕ) (bytes : List ℕ) where
           let y = one_look (hunting q k) t j (live_hunting q k room) a g in
           record { same = omega arith; moves = omega (arith, m.ahead); fresh = f }
 
-      pub over_refused : (refusal_of (part bytes q) ≡ 0 → ⊥) → r ≡ tally (q - p + 1) (hunting (q + 1) k) → Counts limit bytes (hunting p k) r
-      over_refused z e = rw e (to_look 1 (hunting (q + 1) k) (tests_refused q k z) (passes q k (sym (unconfirmed limit bytes q (refusal_of (part bytes q)) refl z))) (omega arith) (λ w. clash (sym w)))
+      pub over_refused : (refusal_of (part bytes q) ≡ 0 → ⊥) → w ≡ hunting (q + 1) k → Counts limit bytes (hunting p k) (tally (q - p + 1) w)
+      over_refused z e = rw e (to_look 1 (hunting (q + 1) k) (tests_refused q k z) (passes q k (sym (unconfirmed limit bytes q (refusal_of (part bytes q)) refl z))) (omega arith) (λ x. clash (sym x)))
 
-      pub over_last : length bytes < q + 6144 + 6144 → r ≡ tally (q - p + 1) (hunting (q + 1) k) → Counts limit bytes (hunting p k) r
-      over_last h e = rw e (to_look 1 (hunting (q + 1) k) (tests_last q k h) (passes q k (sym (no_second limit bytes q h))) (omega arith) (λ w. clash (sym w)))
+      pub over_last : length bytes < q + 6144 + 6144 → w ≡ hunting (q + 1) k → Counts limit bytes (hunting p k) (tally (q - p + 1) w)
+      over_last h e = rw e (to_look 1 (hunting (q + 1) k) (tests_last q k h) (passes q k (sym (no_second limit bytes q h))) (omega arith) (λ x. clash (sym x)))
 
       module _ (z : refusal_of (part bytes q) ≡ 0) (h : q + 6144 + 6144 ≤ length bytes) where
-        pub over_both : confirmed R q ≡ false → r ≡ tally (q - p + 2) (hunting (q + 1) k) → Counts limit bytes (hunting p k) r
-        over_both c e = rw e (to_look 2 (hunting (q + 1) k) (tests_both q k z h) (passes q k c) (omega arith) (λ w. clash (sym w)))
+        pub over_both : confirmed R q ≡ false → w ≡ hunting (q + 1) k → Counts limit bytes (hunting p k) (tally (q - p + 2) w)
+        over_both c e = rw e (to_look 2 (hunting (q + 1) k) (tests_both q k z h) (passes q k c) (omega arith) (λ x. clash (sym x)))
 
-        pub over_taken : 0 < limit → confirmed R q ≡ true → r ≡ tally (q - p + 2) (locked (q + 6144) 0) → Counts limit bytes (hunting p k) r
-        over_taken b c e = rw e (to_look 2 (locked (q + 6144) 0) (tests_both q k z h) (takes q k c) (omega arith) (λ w. b))
+        pub over_taken : 0 < limit → confirmed R q ≡ true → w ≡ locked (q + 6144) 0 → Counts limit bytes (hunting p k) (tally (q - p + 2) w)
+        over_taken b c e = rw e (to_look 2 (locked (q + 6144) 0) (tests_both q k z h) (takes q k c) (omega arith) (λ x. b))
 
   -- ---- and in lock
-  module _ (p k : ℕ) (room : p + 6144 ≤ length bytes) (few : k < limit) (r : Tally) where
-    from_lock : (t : Position) → (look R (locked p k)).goes ≡ t → p < t.place → (t.lock ≡ true → t.misses < limit) → r ≡ tally 1 t → Counts limit bytes (locked p k) r
-    from_lock t g h f e = rw e (record { same = one_look (locked p k) t 1 (live_locked p k room few) (tests_lock p k) g; moves = h; fresh = f })
+  module _ (p k : ℕ) where
+    pub lock_frame : refusal_of (part bytes p) ≡ 0 → locked (p + 6144) 0 ≡ (look R (locked p k)).goes
+    lock_frame z = sym (keeps_lock p k (frame_keeps p z))
 
-    pub lock_frame : refusal_of (part bytes p) ≡ 0 → r ≡ tally 1 (locked (p + 6144) 0) → Counts limit bytes (locked p k) r
-    lock_frame z = from_lock (locked (p + 6144) 0) (keeps_lock p k (frame_keeps p z)) (omega arith) (λ w. omega arith)
+    pub lock_null : refusal_of (part bytes p) ≡ 4 → locked (p + 6144) 0 ≡ (look R (locked p k)).goes
+    lock_null z = sym (keeps_lock p k (null_keeps p z))
 
-    pub lock_null : refusal_of (part bytes p) ≡ 4 → r ≡ tally 1 (locked (p + 6144) 0) → Counts limit bytes (locked p k) r
-    lock_null z = from_lock (locked (p + 6144) 0) (keeps_lock p k (null_keeps p z)) (omega arith) (λ w. omega arith)
+    module _ (r : Refusal) (e : refusal_number r ≡ refusal_of (part bytes p)) (z : refusal_number r ≡ 4 → ⊥) where
+      lost : keeps R p ≡ false
+      lost = none_keeps p (λ q. above_zero r (e ∙ q)) (λ q. z (e ∙ q))
 
-    module _ (y : refusal_of (part bytes p) ≡ 0 → ⊥) (z : refusal_of (part bytes p) ≡ 4 → ⊥) where
-      pub lock_missed : k + 1 < limit → r ≡ tally 1 (locked (p + 6144) (k + 1)) → Counts limit bytes (locked p k) r
-      lock_missed h = from_lock (locked (p + 6144) (k + 1)) (misses_one p k (none_keeps p y z) h) (omega arith) (λ w. h)
+      pub lock_missed : k + 1 < limit → locked (p + 6144) (k + 1) ≡ (look R (locked p k)).goes
+      lock_missed h = sym (misses_one p k lost h)
 
-      pub lock_lost : limit ≤ k + 1 → r ≡ tally 1 (hunting (p + 1) (k + 1)) → Counts limit bytes (locked p k) r
-      lock_lost h = from_lock (hunting (p + 1) (k + 1)) (loses_lock p k (none_keeps p y z) h) (omega arith) (λ w. clash (sym w))
+      pub lock_lost : limit ≤ k + 1 → hunting (p + 1) (k + 1) ≡ (look R (locked p k)).goes
+      lock_lost h = sym (loses_lock p k lost h)
 
-  pub of_locked : (s : Position) (r : Tally) → s.lock ≡ true → Counts limit bytes (locked s.place s.misses) r → Counts limit bytes s r
-  of_locked s r e c = subst (λ (t : Position). Counts limit bytes t r) (as_locked s e) c
+  -- in lock the misses stay below the limit
+  below : 0 < limit → (s : Position) → (look R s).goes.lock ≡ true → (look R s).goes.misses < limit
+  unfolding judged
+  below h = by_rules R (λ s l. l.goes.lock ≡ true → l.goes.misses < limit) (λ p k e z. h) (λ p k e b z. b) (λ p k e z. clash (sym z)) (λ p k e z. h) (λ p k z. clash (sym z))
+
+  -- one look in lock puts one test
+  pub one_locked : (s : Position) → s.lock ≡ true → s.place + 6144 ≤ length bytes → s.misses < limit → (w : Position) → w ≡ (look R (locked s.place s.misses)).goes → Counts limit bytes s (tally 1 w)
+  unfolding judged
+  one_locked s l room few w e =
+      subst (λ (t : Position). Counts limit bytes t (tally 1 w)) (as_locked s l)
+      (record {
+        same = one_look (locked s.place s.misses) w 1 (live_locked s.place s.misses room few) (tests_lock s.place s.misses) (sym e);
+        moves = rw e (further R (lit< tt) (locked s.place s.misses));
+        fresh = rw e (below (omega arith) (locked s.place s.misses));
+      })
 
   pub of_hunting : (s : Position) (r : Tally) → s.lock ≡ false → Counts limit bytes (hunting s.place s.misses) r → Counts limit bytes s r
   of_hunting s r e c = subst (λ (t : Position). Counts limit bytes t r) (as_hunting s e) c
@@ -174,12 +191,12 @@ module _ (limit : ℕ) (bytes : List ℕ) where
       few_put = omega (arith, o.sum, c.same, most_tests limit bytes)
 
 -- ---- the answer
-module _ (limit : ℕ) (bytes : List ℕ) (n : ℕ) (e : n ≡ limit_refusal_of limit) where
-  pub answer_refused : (n ≡ 0 → ⊥) → CountsTests limit bytes (Refused n)
-  answer_refused f = record { number = e; values = rw (number_outside limit (λ z. f (e ∙ z))) refl }
+module _ (limit : ℕ) (bytes : List ℕ) where
+  pub answer_refused : (n : Refusal) → refusal_number n ≡ limit_refusal_of limit → CountsTests limit bytes (Err n)
+  answer_refused n e = record { number = e; values = rw (number_outside limit (λ z. above_zero n (e ∙ z))) refl }
 
-  pub answer_tests : n ≡ 0 → (t : ℕ) → t ≡ tests_of limit bytes → CountsTests limit bytes (Tests t)
-  answer_tests z t w = record { number = sym z ∙ e; values = rw (number_allowed limit (sym e ∙ z)) (ap (λ (k : ℕ). k ∷ []) w) }
+  pub answer_tests : limit_refusal_of limit ≡ 0 → (t : ℕ) → t ≡ tests_of limit bytes → CountsTests limit bytes (Ok t)
+  answer_tests z t w = record { number = sym z; values = rw (number_allowed limit z) (ap (λ (k : ℕ). k ∷ []) w) }
 
-  pub positive : n ≡ 0 → 0 < limit
-  positive z = (allowed_is limit (number_allowed limit (sym e ∙ z))).0
+  pub positive : limit_refusal_of limit ≡ 0 → 0 < limit
+  positive z = (allowed_is limit (number_allowed limit z)).0

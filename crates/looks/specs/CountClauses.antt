@@ -1,19 +1,13 @@
 -- Nothing in this file need be believed: clauses between private functions.
 -- Assumes nothing.
-use Rattle.std.specs.Prelude.{ℕ, ◌+◌, ◌≤◌, ◌<◌, ◌≡◌, true, List, length}
-use Rattle.frame.specs.Rules.{refusal_of}
+use Rattle.std.specs.Prelude.{ℕ, ◌+◌, ◌<◌, ◌≡◌, true, List}
 use Rattle.walk.specs.declared.Position.{Position}
-use Rattle.walk.specs.Records.{part, judged}
+use Rattle.walk.specs.Records.{judged}
 use Rattle.looks.specs.declared.Tally.{Tally}
 use Rattle.looks.specs.Testing.{tests_from}
 
 abbrev pub tally : ℕ → Position → Tally
 tally n s = record { tests = n; position = s }
-
--- p stands, and the bytes of the place a period later exist
-pub record Stands (bytes : List ℕ) (p : ℕ) : Type 0 where
-  pub room : p + 6144 + 6144 ≤ length bytes
-  pub accepted : refusal_of (part bytes p) ≡ 0
 
 -- from s the walk goes on to r's position, and r's tests are put on the way
 pub record Counts (limit : ℕ) (bytes : List ℕ) (s : Position) (r : Tally) : Type 0 where

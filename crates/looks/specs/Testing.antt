@@ -1,13 +1,14 @@
 -- How many times a walk puts the acceptance test to a place, over the list of its looks, by which its items and steps are defined.
 -- Assumes nothing.
-use Rattle.std.specs.Prelude.{ℕ, ◌+◌, true, false, ◌&&◌, List, [], ◌∷◌, ◌≡◌}
+use Rattle.std.specs.Prelude.{ℕ, ◌+◌, true, false, ◌&&◌, List, [], ◌∷◌, ◌≡◌, Result, Ok, Err}
+use Rattle.refusals.specs.declared.Refusal.{Refusal}
+use Rattle.refusals.specs.declared.Refusal.TheVariants.{Length}
+use Rattle.refusals.specs.Refusals.{outcome_number}
 use Rattle.octets.specs.Choice.{pick}
 use Rattle.frame.specs.declared.Header.{Header}
 use Rattle.walk.specs.declared.Position.{Position}
 use Rattle.walk.specs.Walk.{Judged, fits, looks, begin}
 use Rattle.walk.specs.Records.{judged, allowed, limit_refusal_of}
-use Rattle.looks.specs.declared.Counted.{Counted}
-use Rattle.looks.specs.declared.Counted.TheVariants.{Tests, Refused}
 
 -- of one look: in lock one; hunting one, and one more for the confirming place, where the first stands and the bytes of the second exist
 unfoldable pub tests_at : Judged → Position → ℕ
@@ -25,18 +26,14 @@ tests_from R s = tests_in R (looks R s)
 unfoldable pub tests_of : ℕ → List ℕ → ℕ
 tests_of m bytes = tests_from (judged m bytes) begin
 
--- an answer's number, 0 for a count, and its values: the number of tests, none for refused
-abbrev pub counted_number : Counted → ℕ
-counted_number (Tests n) = 0
-counted_number (Refused n) = n
-
-abbrev pub counted_values : Counted → List ℕ
-counted_values (Tests n) = n ∷ []
-counted_values (Refused n) = []
+-- an answer's values: the number of tests, none for refused
+abbrev pub counted_values : Result ℕ Refusal → List ℕ
+counted_values (Ok n) = n ∷ []
+counted_values (Err n) = []
 
 -- the answer r: 27 for a limit outside 1 to 8, otherwise the count
-pub record CountsTests (m : ℕ) (bytes : List ℕ) (r : Counted) : Type 0 where
-  pub number : counted_number r ≡ limit_refusal_of m
+pub record CountsTests (m : ℕ) (bytes : List ℕ) (r : Result ℕ Refusal) : Type 0 where
+  pub number : outcome_number r ≡ limit_refusal_of m
   pub values : counted_values r ≡ pick (allowed m) (tests_of m bytes ∷ []) []
 
 -- judged places of which each stands, all with one sync word, so that none is ever confirmed: the most tests that any judging can ask for
@@ -50,5 +47,5 @@ all_alike len limit header =
       null = λ p. false;
       sync = λ p. false;
       header = header;
-      number = λ p. 0;
+      refusal = λ p. Length;
     }

@@ -3,22 +3,20 @@
 use mathlib.Core.Bool.{Bool, true, false, not}
 use mathlib.Core.List.{List}
 use mathlib.Core.Path.{◌≡◌, refl, ◌∙◌}
-use Prim.Native.Nat.{ℕ, suc, ◌+◌, ◌-◌, ◌*◌, ◌/◌, ◌%◌, ◌≤◌, ◌<◌}
+use Prim.Native.Nat.{ℕ, suc, ◌+◌, ◌-◌, ◌*◌, ◌%◌, ◌≤◌, ◌<◌}
 use native.Mathlib.Omega.{arith}
 use borrow.Author.Tests.{eq-eqb, ne_eqb, lt-ltb, le-ltb, le-leb, lt-leb}
 use lib.Dec.{ltb}
-use lib.ListN.{length, get_or}
+use lib.ListN.{length}
+use Rattle.std.specs.List.{position}
+use Rattle.std.specs.Option.{ok_or}
+use Rattle.std.proofs.Common.{Option, Some, None, Ok, Err, take, drop, get_or}
 use Rattle.octets.specs.Choice.{pick}
+use Rattle.refusals.specs.declared.Refusal.TheVariants.{NotAllowed}
+use Rattle.refusals.specs.Refusals.{outcome_number}
 use Rattle.nightlog.specs.declared.Entry.{Entry}
-use Rattle.nightlog.specs.Log.{allowed, allowed_entry, entry_from, tail_from, good_from, bad_from, log_refusal_of, Judges, entry_refusal_of, no_entry, Finds, writing_refusal_of, WritesEntry, record_of}
-
-pub tail_bad : (l : List ℕ) (at t : ℕ) → t ≡ tail_from l at → (t ≡ 0 → ⊥) → false ≡ good_from l at
-unfolding good_from
-tail_bad l at t e h = rw (← e, ne_eqb t 0 h)
-
-pub tail_good : (l : List ℕ) (at t : ℕ) (r : Bool) → t ≡ tail_from l at → t ≡ 0 → r ≡ allowed (get_or l (at + 8) 0) (get_or l (at + 9) 0) (get_or l (at + 10) 0) → r ≡ good_from l at
-unfolding good_from entry_from
-tail_good l at t r e h q = rw (← e, eq-eqb t 0 h) q
+use Rattle.nightlog.specs.Log.{allowed_entry, entry_from, good_from, records_in, records_of, entry_of_record, bad_from, first_bad, log_refusal_of, Judges, entry_refusal_of, no_entry, found_entry, Finds, writing_refusal_of, WritesEntry, record_of}
+use Rattle.nightlog.proofs.Cut.{entry_in, good_in, counted, chunk_at, bad_found_at, none_found}
 
 module _ (l : List ℕ) where
   turn : (i n : ℕ) → i < n → bad_from l i (n - i) ≡ pick (good_from l (16 * i)) (bad_from l (i + 1) (n - (i + 1))) i
@@ -43,17 +41,18 @@ module _ (l : List ℕ) where
   unfolding log_refusal_of
   odd h = record { number = rw (ne_eqb (length l % 16) 0 h); bad = rw (ne_eqb (length l % 16) 0 h) }
 
-  module _ (b : ℕ) (even : length l % 16 ≡ 0) (e : b ≡ bad_from l 0 (length l / 16)) where
-    pub bad : b < length l / 16 → Judges l 29 b
+  module _ (even : length l % 16 ≡ 0) where
+    pub bad : (b : ℕ) → Some b ≡ position (λ r. not (good_from r 0)) (records_of l) → Judges l 29 b
     unfolding log_refusal_of
-    bad h =
-        let q : ltb (bad_from l 0 (length l / 16)) (length l / 16) ≡ true = rw (← e) (lt-ltb b (length l / 16) h) in
-        record { number = rw (eq-eqb (length l % 16) 0 even, q); bad = rw (eq-eqb (length l % 16) 0 even, q) e }
+    bad b e =
+        let p = bad_found_at l b e in
+        let q : ltb (first_bad l) (records_in l) ≡ true = rw (← p.0) (lt-ltb b (records_in l) p.1) in
+        record { number = rw (eq-eqb (length l % 16) 0 even, q); bad = rw (eq-eqb (length l % 16) 0 even, q) p.0 }
 
-    pub good : length l / 16 ≤ b → Judges l 0 0
+    pub good : None ≡ position (λ r. not (good_from r 0)) (records_of l) → Judges l 0 0
     unfolding log_refusal_of
-    good h =
-        let q : ltb (bad_from l 0 (length l / 16)) (length l / 16) ≡ false = rw (← e) (le-ltb b (length l / 16) h) in
+    good e =
+        let q : ltb (first_bad l) (records_in l) ≡ false = le-ltb (first_bad l) (records_in l) (none_found l e) in
         record { number = rw (eq-eqb (length l % 16) 0 even, q); bad = rw (eq-eqb (length l % 16) 0 even, q) }
 
   -- ---- reading record i
@@ -63,48 +62,43 @@ module _ (l : List ℕ) where
     find_odd h = record { number = rw (ne_eqb (length l % 16) 0 h); entry = rw (ne_eqb (length l % 16) 0 h) }
 
     module _ (even : length l % 16 ≡ 0) where
-      pub find_beyond : length l / 16 ≤ i → Finds l i 34 no_entry
+      pub find_beyond : records_in l ≤ i → Finds l i 34 no_entry
       unfolding entry_refusal_of
       find_beyond h =
-          let q = le-leb (length l / 16) i h in
+          let q = le-leb (records_in l) i h in
           record { number = rw (eq-eqb (length l % 16) 0 even, q); entry = rw (eq-eqb (length l % 16) 0 even, q) }
 
-      module _ (b : Bool) (e : b ≡ good_from l (16 * i)) (within : i < length l / 16) where
-        pub find_bad : b ≡ false → Finds l i 29 no_entry
-        unfolding entry_refusal_of
-        find_bad h =
-            let q = lt-leb (length l / 16) i within in
-            record { number = rw (eq-eqb (length l % 16) 0 even, q, ← e, h); entry = rw (eq-eqb (length l % 16) 0 even, q, ← e, h) }
+      pub find_here : i < records_in l → (r : List ℕ) → r ≡ take 16 (drop (16 * i) l)
+          → Finds l i (outcome_number (ok_or (entry_of_record r) NotAllowed)) (found_entry (ok_or (entry_of_record r) NotAllowed))
+      unfolding entry_refusal_of
+      find_here h r e = rw (e, good_in l (16 * i), entry_in l (16 * i)) (go (good_from l (16 * i)) refl)
+        where
+          go : (b : Bool) → good_from l (16 * i) ≡ b
+              → Finds l i (outcome_number (ok_or (pick b (Some (entry_from l (16 * i))) None) NotAllowed)) (found_entry (ok_or (pick b (Some (entry_from l (16 * i))) None) NotAllowed))
+          go true e = record { number = rw (eq-eqb (length l % 16) 0 even, lt-leb (records_in l) i h, e); entry = rw (eq-eqb (length l % 16) 0 even, lt-leb (records_in l) i h, e) }
+          go false e = record { number = rw (eq-eqb (length l % 16) 0 even, lt-leb (records_in l) i h, e); entry = rw (eq-eqb (length l % 16) 0 even, lt-leb (records_in l) i h, e) }
 
-        pub find_good : (x : Entry) → b ≡ true → x ≡ entry_from l (16 * i) → Finds l i 0 x
-        unfolding entry_refusal_of
-        find_good x h p =
-            let q = lt-leb (length l / 16) i within in
-            record { number = rw (eq-eqb (length l % 16) 0 even, q, ← e, h); entry = rw (eq-eqb (length l % 16) 0 even, q, ← e, h) p }
+-- ---- what a caller that goes over the records learns of one
+module _ (l : List ℕ) (rs : List (List ℕ)) (cut : rs ≡ records_of l) (i : ℕ) (d : List ℕ) (h : i < length rs) (o : Option Entry) (e : o ≡ entry_of_record (get_or rs i d)) where
+  by_good : o ≡ pick (good_from l (16 * i)) (Some (entry_from l (16 * i))) None
+  by_good =
+      let k : i < records_in l = omega (arith, counted l rs cut) in
+      e ∙ (rw (cut, chunk_at (records_in l) i l d k, good_in l (16 * i), entry_in l (16 * i)))
 
--- what a caller learns of a record that is there
-module _ (l : List ℕ) (i n : ℕ) (x : Entry) (f : Finds l i n x) (even : length l % 16 ≡ 0) (within : i < length l / 16) where
-  by_good : entry_refusal_of l i ≡ pick (good_from l (16 * i)) 0 29
-  unfolding entry_refusal_of
-  by_good = rw (eq-eqb (length l % 16) 0 even, lt-leb (length l / 16) i within) (go (good_from l (16 * i)))
-    where
-      go : (b : Bool) → ◌≡◌ {A = ℕ} (pick (not b) 29 0) (pick b 0 29)
-      go true = refl
-      go false = refl
+  module _ {E : Type 0} (y : E) where
+    pub found_good : (x : Entry) → Ok x ≡ ok_or o y → (good_from l (16 * i) ≡ true) × (x ≡ entry_from l (16 * i))
+    found_good x p = go (good_from l (16 * i)) refl by_good
+      where
+        go : (b : Bool) → good_from l (16 * i) ≡ b → o ≡ pick b (Some (entry_from l (16 * i))) None → (good_from l (16 * i) ≡ true) × (x ≡ entry_from l (16 * i))
+        go true q g = (q, cc (rw g at p))
+        go false q g = absurd (cc (rw g at p))
 
-  pub found_good : n ≡ 0 → (good_from l (16 * i) ≡ true) × (x ≡ entry_from l (16 * i))
-  found_good z = go (good_from l (16 * i)) refl
-    where
-      go : (b : Bool) → good_from l (16 * i) ≡ b → (good_from l (16 * i) ≡ true) × (x ≡ entry_from l (16 * i))
-      go true e = (e, f.entry ∙ (rw (by_good, e)))
-      go false e = let q : n ≡ 29 = f.number ∙ by_good ∙ (rw e) in absurd (omega arith)
-
-  pub found_bad : (n ≡ 0 → ⊥) → (good_from l (16 * i) ≡ false) × (n ≡ 29)
-  found_bad z = go (good_from l (16 * i)) refl
-    where
-      go : (b : Bool) → good_from l (16 * i) ≡ b → (good_from l (16 * i) ≡ false) × (n ≡ 29)
-      go true e = absurd (z (f.number ∙ by_good ∙ (rw e)))
-      go false e = (e, f.number ∙ by_good ∙ (rw e))
+    pub found_bad : (x : E) → Err x ≡ ok_or o y → (good_from l (16 * i) ≡ false) × (x ≡ y)
+    found_bad x p = go (good_from l (16 * i)) refl by_good
+      where
+        go : (b : Bool) → good_from l (16 * i) ≡ b → o ≡ pick b (Some (entry_from l (16 * i))) None → (good_from l (16 * i) ≡ false) × (x ≡ y)
+        go true q g = absurd (cc (rw g at p))
+        go false q g = (q, cc (rw g at p))
 
 -- ---- writing
 module _ (e : Entry) (before after : List ℕ) where

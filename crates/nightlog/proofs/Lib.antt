@@ -1,3 +1,5 @@
+pub mod Cut
+pub mod LogFixed
 pub mod Accepted
 pub mod Judged
 pub mod LogWritten

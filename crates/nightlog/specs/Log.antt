@@ -1,11 +1,17 @@
 -- The fault log of T-13: records of sixteen bytes, no header.
 -- Assumes nothing.
-use Rattle.std.specs.Prelude.{Bool, true, not, ◌&&◌, List, [], ◌∷◌, ◌++◌, ◌≡◌, ℕ, zero, suc, ◌+◌, ◌*◌, ◌/◌, ◌%◌, ◌^◌, ◌<◌, eqb, ltb, leb, length, get_or}
+use Rattle.std.specs.Prelude.{Bool, true, not, ◌&&◌, List, [], ◌∷◌, ◌++◌, ◌≡◌, ℕ, zero, suc, ◌+◌, ◌*◌, ◌/◌, ◌%◌, ◌^◌, ◌<◌, eqb, ltb, leb, length, get_or, Option, Some, None, Result, Ok, Err}
+use Rattle.std.specs.Simd.{first_chunks}
 use Rattle.octets.specs.Choice.{pick}
 use Rattle.octets.specs.Stores.{bytes_of_each}
 use Rattle.octets.specs.Words.{split, bytes8, eight_at}
 use Rattle.frame.specs.Rules.{Rule, ◌when◌, first}
+use Rattle.refusals.specs.declared.Refusal.{Refusal}
+use Rattle.refusals.specs.declared.Refusal.TheVariants.{LogLength, NotAllowed}
+use Rattle.refusals.specs.Refusals.{refusal_number}
 use Rattle.nightlog.specs.declared.Entry.{Entry}
+pub use Rattle.nightlog.specs.declared.BadLog.{BadLog}
+use Rattle.nightlog.specs.declared.BadLog.TheVariants.{Length, Record}
 
 -- refusals 2 to 10, 4 never in lost
 unfoldable pub lost_code : ℕ → Bool
@@ -55,6 +61,14 @@ good_from l at = eqb (tail_from l at) 0 && allowed_entry (entry_from l at)
 abbrev pub records_in : List ℕ → ℕ
 records_in l = length l / 16
 
+-- a log's whole records, sixteen bytes each
+abbrev pub records_of : List ℕ → List (List ℕ)
+records_of l = first_chunks 16 (records_in l) l
+
+-- the entry of one record, where it is good
+abbrev pub entry_of_record : List ℕ → Option Entry
+entry_of_record r = pick (good_from r 0) (Some (entry_from r 0)) None
+
 -- the first n entries
 unfoldable pub entries_to : List ℕ → ℕ → List Entry
 entries_to l zero = []
@@ -78,6 +92,24 @@ log_rules_of l = (28 when not (eqb (length l % 16) 0)) ∷ (29 when ltb (first_b
 unfoldable pub log_refusal_of : List ℕ → ℕ
 log_refusal_of l = first (log_rules_of l)
 
+-- ---- what a refused log is told with: its refusal, and the bad record for 29
+abbrev pub refusal_for : BadLog → Refusal
+refusal_for Length = LogLength
+refusal_for (Record b) = NotAllowed
+
+abbrev pub bad_in : BadLog → ℕ
+bad_in Length = 0
+bad_in (Record b) = b
+
+-- the number and the bad record of an outcome
+abbrev pub judged_number : {A : Type 0} → Result A BadLog → ℕ
+judged_number (Ok x) = 0
+judged_number (Err why) = refusal_number (refusal_for why)
+
+abbrev pub judged_bad : {A : Type 0} → Result A BadLog → ℕ
+judged_bad (Ok x) = 0
+judged_bad (Err why) = bad_in why
+
 -- a log's number n, and the record that it names: the bad one for 29, else 0
 pub record Judges (l : List ℕ) (n b : ℕ) : Type 0 where
   pub number : n ≡ log_refusal_of l
@@ -90,6 +122,11 @@ entry_refusal_of l i =
 
 abbrev pub no_entry : Entry
 no_entry = record { place = 0; kind = 0; code = 0; level = 0 }
+
+-- the entry that is handed out, zeros where none is
+abbrev pub found_entry : Result Entry Refusal → Entry
+found_entry (Ok e) = e
+found_entry (Err r) = no_entry
 
 pub record Finds (l : List ℕ) (i n : ℕ) (e : Entry) : Type 0 where
   pub number : n ≡ entry_refusal_of l i

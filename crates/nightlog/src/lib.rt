@@ -1,12 +1,23 @@
 // The fault log of a night: records of sixteen bytes, written, judged and read.
 #![tactic(auto)]
 
-ghost use Rattle.std.specs.Prelude.{[], ◌∷◌, ◌≡◌, ◌+◌, ◌*◌, ◌<◌, ◌≤◌, length};
-ghost use Rattle.octets.specs.Stores.{put};
-ghost use Rattle.nightlog.specs.Log.{lost_code, allowed, record_of, entry_from, tail_from, good_from, bad_from, no_entry, Judges, Finds, WritesEntry};
+ghost use Rattle.std.specs.Prelude.{◌≡◌, ◌≢◌, ◌%◌, MatchResult, length, position, not};
+ghost use Rattle.refusals.specs.Refusals.{outcome_number};
+ghost use Rattle.nightlog.specs.Log.{lost_code, allowed, good_from, records_of, entry_of_record, Judges, Finds, WritesEntry};
+ghost use Rattle.nightlog.specs.Log.{refusal_for, judged_number, judged_bad, found_entry};
 
-// What a record holds: the place of an item, its kind (0 frame, 1 lost, 2 idle), its code (FCT, refusal, 4), its level (FF unless a frame).
-#[derive(Clone, Copy)]
+use refusals::Refusal;
+
+// The kinds of a record.
+pub const FRAME: u8 = 0;
+
+pub const LOST: u8 = 1;
+
+pub const IDLE: u8 = 2;
+
+// What a record holds: the place of an item, its kind, its code (FCT, refusal, 4), its level (FF unless a frame).
+// Kind, code and level are numbers: `write` promises 29 for those that no record has, and C hands it any.
+#[derive(Clone, Copy, Debug, PartialEq, Eq)]
 pub struct Entry {
     pub place: usize,
     pub kind: u8,
@@ -14,179 +25,126 @@ pub struct Entry {
     pub level: u8,
 }
 
-// A log's number, 0 where every record is good, and the first bad record for 29.
-#[derive(Clone, Copy)]
-pub struct Verdict {
-    pub number: u8,
-    pub bad: usize,
+// Why a log is refused: it is no whole number of records, or this record is the first bad one.
+#[derive(Clone, Copy, Debug, PartialEq, Eq)]
+pub enum BadLog {
+    Length,
+    Record(usize),
 }
 
-// A record's entry, and 0; or why it is not handed out, and zeros.
-#[derive(Clone, Copy)]
-pub struct Found {
-    pub number: u8,
-    pub entry: Entry,
+impl From<BadLog> for Refusal {
+    ghost from_gives = { λ why r. r ≡ refusal_for why };
+
+    fn from(why: BadLog) -> Refusal {
+        match why {
+            BadLog::Length => Refusal::LogLength,
+            BadLog::Record(_) => Refusal::NotAllowed,
+        }
+    }
 }
 
+#[tactic(auto, using(octets::proofs::Deciding::tests), unfolding(crate::specs::Log::lost_code))]
 fn lost_code(code: u8) -> bool
     ensures { result ≡ lost_code code }
 {
-    if code < 2 {
-        return false;
-    }
-    if code > 10 {
-        return false;
-    }
-    code != 4
+    matches!(code, 2..=3 | 5..=10)
 }
 
+#[tactic(auto, using(octets::proofs::Deciding::tests), unfolding(crate::specs::Log::allowed))]
 fn allows(kind: u8, code: u8, level: u8) -> bool
     ensures { result ≡ allowed kind code level }
 {
-    if kind == 0 {
-        if code > 249 {
-            return false;
-        }
-        return level <= 3;
-    }
-    if level != 0xFF {
-        return false;
-    }
-    if kind == 1 {
-        return lost_code(code);
-    }
-    if kind != 2 {
-        return false;
-    }
-    code == 4
-}
-
-fn entry_from(log: &[u8], at: usize) -> Entry
-    requires { at + 15 < length log.now }
-    ensures { result ≡ entry_from log.now at }
-{
-    Entry {
-        place: octets::eight(log, at),
-        kind: log[at + 8],
-        code: log[at + 9],
-        level: log[at + 10],
+    match kind {
+        FRAME => code <= 249 && level <= 3,
+        LOST => level == 0xFF && lost_code(code),
+        IDLE => level == 0xFF && code == 4,
+        _ => false,
     }
 }
 
-fn tail_from(log: &[u8], at: usize) -> usize
-    requires { at + 15 < length log.now }
-    ensures { result ≡ tail_from log.now at }
+// Whether a record's five last bytes are zero, and its kind, code and level allowed.
+#[tactic(auto, unfolding(crate::specs::Log::good_from, crate::specs::Log::tail_from, crate::specs::Log::entry_from))]
+fn is_good(bytes: &[u8; 16]) -> bool
+    ensures { result ≡ good_from bytes.now 0 }
 {
-    octets::byte(log, at + 11)
-        + octets::byte(log, at + 12)
-        + octets::byte(log, at + 13)
-        + octets::byte(log, at + 14)
-        + octets::byte(log, at + 15)
+    match bytes {
+        [.., kind, code, level, 0, 0, 0, 0, 0] => allows(*kind, *code, *level),
+        _ => false,
+    }
 }
 
-fn good_from(log: &[u8], at: usize) -> bool
-    requires { at + 15 < length log.now }
-    ensures { result ≡ good_from log.now at }
+// A record's entry, where it is good.
+#[tactic(auto, unfolding(crate::specs::Log::entry_from))]
+pub fn entry_in(bytes: &[u8; 16]) -> Option<Entry>
+    ensures { result ≡ entry_of_record bytes.now }
 {
-    if tail_from(log, at) != 0 {
-        return false;
+    if !is_good(bytes) {
+        return None;
     }
-    allows(log[at + 8], log[at + 9], log[at + 10])
+    Some(Entry {
+        place: octets::eight(bytes, 0),
+        kind: bytes[8],
+        code: bytes[9],
+        level: bytes[10],
+    })
 }
 
-// The number of the first bad record, and n where all are good.
-fn first_bad(log: &[u8], n: usize) -> usize
-    requires { 16 * n ≤ length log.now }
-    ensures { result ≡ bad_from log.now 0 n }
+// A log's records.
+pub fn records(log: &[u8]) -> Result<&[[u8; 16]], BadLog>
+    ensures { MatchResult result (λ r. (r.now ≡ records_of log.now) × (length log.now % 16 ≡ 0)) (λ why. (why ≡ BadLog.Length) × (length log.now % 16 ≢ 0)) }
 {
-    let mut i = 0;
-    while i < n {
-        if !good_from(log, 16 * i) {
-            return i;
-        }
-        i += 1;
+    let (records, rest) = log.as_chunks::<16>();
+    if rest.is_empty() {
+        Ok(records)
+    } else {
+        Err(BadLog::Length)
     }
-    i
 }
 
-// A log of any length, judged: 28, 29 with the first bad record, or 0.
-pub fn judge(log: &[u8]) -> Verdict
-    ensures { Judges log.now result.number result.bad }
+// The number of the first bad record, from 0 on.
+fn first_bad(records: &[[u8; 16]]) -> Option<usize>
+    ensures { result ≡ position (λ r. not (good_from r 0)) records.now }
 {
-    let len = log.len();
-    if len % 16 != 0 {
-        return Verdict { number: 28, bad: 0 };
-    }
-    let n = len / 16;
-    let bad = first_bad(log, n);
-    if bad < n {
-        return Verdict { number: 29, bad };
-    }
-    Verdict { number: 0, bad: 0 }
+    records.iter().position(|bytes| !is_good(bytes))
 }
 
-fn not_found(number: u8) -> Found
-    ensures { result ≡ record { number = number; entry = no_entry } }
+// A log of any length, judged: 28, or 29 with the first bad record.
+pub fn judge(log: &[u8]) -> Result<(), BadLog>
+    ensures { Judges log.now (judged_number result) (judged_bad result) }
 {
-    let entry = Entry {
-        place: 0,
-        kind: 0,
-        code: 0,
-        level: 0,
-    };
-    Found { number, entry }
+    let records = records(log)?;
+    match first_bad(records) {
+        Some(bad) => Err(BadLog::Record(bad)),
+        None => Ok(()),
+    }
 }
 
 // Record i of a log, at the same cost whatever the log's length: 28, then 34 where there is no such record, then 29 where it is bad.
-pub fn read(log: &[u8], i: usize) -> Found
-    ensures { Finds log.now i result.number result.entry }
+pub fn read(log: &[u8], i: usize) -> Result<Entry, Refusal>
+    ensures { Finds log.now i (outcome_number result) (found_entry result) }
 {
-    let len = log.len();
-    if len % 16 != 0 {
-        return not_found(28);
+    let records = records(log)?;
+    match records.get(i) {
+        Some(bytes) => entry_in(bytes).ok_or(Refusal::NotAllowed),
+        None => Err(Refusal::PlaceOutside),
     }
-    if i >= len / 16 {
-        return not_found(34);
-    }
-    if !good_from(log, 16 * i) {
-        return not_found(29);
-    }
-    let entry = entry_from(log, 16 * i);
-    Found { number: 0, entry }
-}
-
-fn put_rest(out: &mut [u8], kind: u8, code: u8, level: u8)
-    requires { length out.old ≡ 16 }
-    ensures { out.new ≡ put out.old 8 (kind ∷ code ∷ level ∷ 0 ∷ 0 ∷ 0 ∷ 0 ∷ 0 ∷ []) }
-{
-    out[8] = kind;
-    out[9] = code;
-    out[10] = level;
-    out[11] = 0;
-    out[12] = 0;
-    out[13] = 0;
-    out[14] = 0;
-    out[15] = 0;
-}
-
-fn fill(entry: Entry, out: &mut [u8])
-    requires { length out.old ≡ 16 }
-    ensures { out.new ≡ record_of entry }
-{
-    putting::put8(out, 0, entry.place);
-    put_rest(out, entry.kind, entry.code, entry.level);
 }
 
 // An entry into lent bytes: 37 when not exactly sixteen are lent, then 29. Nothing is written on a refusal.
-pub fn write(entry: Entry, out: &mut [u8]) -> u8
-    ensures { WritesEntry entry out.old out.new result }
+pub fn write(entry: Entry, out: &mut [u8]) -> Result<(), Refusal>
+    ensures { WritesEntry entry out.old out.new (outcome_number result) }
 {
     if out.len() != 16 {
-        return 37;
+        return Err(Refusal::NotSixteen);
     }
     if !allows(entry.kind, entry.code, entry.level) {
-        return 29;
+        return Err(Refusal::NotAllowed);
     }
-    fill(entry, out);
-    0
+    putting::put8(out, 0, entry.place);
+    putting::put_bytes(
+        out,
+        8,
+        &[entry.kind, entry.code, entry.level, 0, 0, 0, 0, 0],
+    );
+    Ok(())
 }

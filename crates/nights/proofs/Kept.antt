@@ -18,6 +18,7 @@ use Rattle.frame.specs.Rules.{Rule, ◌when◌, first, rules_of, refusal_of, Acc
 use Rattle.frame.specs.Answers.{header_for}
 use Rattle.frame.proofs.Places.{status_placed}
 use Rattle.trips.proofs.ReadWritable.{level_le}
+use Rattle.refusals.specs.Refusals.{refusal_number}
 use Rattle.nightlog.specs.Log.{frame_kind as loggedFrame, lost_kind as loggedLost, idle_kind as loggedIdle, allowed, allowed_entry, lost_code, writing_refusal_of}
 use Rattle.walk.specs.declared.Item.{Item}
 use Rattle.walk.specs.declared.Item.TheVariants.{Frame, Lost, Idle, Done}
@@ -80,6 +81,6 @@ module _ (bytes : List ℕ) (s : State) where
     where
       go : (x : Item) (t : State) → ItemTrue bytes s x t → (kind_of x ≡ done_kind → ⊥) → allowed_entry (entry_of x) ≡ true
       go (Frame p h) t f n = frame_allowed (part bytes p) h f.acceptable f.header
-      go (Lost p n) t f k = lost_allowed n (lost_number bytes p f.fits n f.number f.refused) f.carrying
+      go (Lost p n) t f k = lost_allowed (refusal_number n) (lost_number bytes p f.fits (refusal_number n) f.number f.refused) f.carrying
       go (Idle p) t f n = refl
       go (Done p) t f n = absurd (n refl)

@@ -2,6 +2,7 @@
 -- Assumes nothing.
 use Rattle.std.specs.Prelude.{List, [], ◌∷◌, ℕ, eqb}
 use Rattle.octets.specs.Choice.{pick}
+use Rattle.refusals.specs.Refusals.{refusal_number}
 use Rattle.nightlog.specs.declared.Entry.{Entry}
 use Rattle.walk.specs.declared.Item.{Item}
 use Rattle.walk.specs.declared.Item.TheVariants.{Frame, Lost, Idle, Done}
@@ -11,7 +12,7 @@ use Rattle.walk.specs.ItemValues.{done_kind, kind_of, place_of}
 -- a frame's FCT, a lost mark's refusal number, and 4; done has none
 abbrev pub code_of : Item → ℕ
 code_of (Frame p h) = h.fct
-code_of (Lost p n) = n
+code_of (Lost p n) = refusal_number n
 code_of (Idle p) = 4
 code_of (Done p) = 0
 

@@ -2,14 +2,13 @@
 -- Assumes nothing.
 use mathlib.Core.List.{List, [], ◌∷◌, ◌++◌, append_assoc, append-nil}
 use mathlib.Core.Path.{◌≡◌, refl, sym, ap, ap₂, ◌∙◌}
-use Prim.Native.Nat.{ℕ, suc, ◌+◌, ◌*◌, ◌/◌, ◌%◌, ◌^◌, ◌≤◌, ◌<◌}
-use native.Mathlib.Nat.{zero-add, add_assoc, div-one, div-div-eq-div-mul, mul-zero, mul-suc, mul-le-mul_left}
+use Prim.Native.Nat.{ℕ, suc, ◌+◌, ◌*◌, ◌/◌, ◌%◌, ◌≤◌, ◌<◌}
+use native.Mathlib.Nat.{zero-add, add_assoc, mul-zero, mul-suc, mul-le-mul_left}
 use native.Mathlib.Numerals.{add-one}
 use native.Mathlib.Omega.{arith}
 use borrow.Author.Tests.{le-leb, lt-leb}
 use lib.ListN.{length, get_or, take, drop, set, length-set, length-append, length-drop}
 use lib.Seq.{length-take-le, take_at, drop_at, drop-drop, drop-length, take-suc, sets-eq}
-use Rattle.octets.specs.Words.{split, bytes4, bytes8}
 use Rattle.octets.specs.Stores.{put, bytes_of_each}
 
 module _ (l : List ℕ) (at : ℕ) (us : List ℕ) (h : at + length us ≤ length l) where
@@ -96,21 +95,11 @@ stores_all l v vs e = stores l 0 v vs (omega arith) ∙ put_all l (v ∷ vs) (om
 pub low_byte : (n : ℕ) → n % 256 ≡ n / 1 % 256
 low_byte n = omega arith
 
--- eight bytes are those of the high word and those of the low
-pub words_bytes : (n : ℕ) → split bytes4 (n / 2 ^ 32) ++ split bytes4 n ≡ split bytes8 n
-words_bytes n = rw (div-div-eq-div-mul n (2 ^ 32) (2 ^ 24), div-div-eq-div-mul n (2 ^ 32) (2 ^ 16), div-div-eq-div-mul n (2 ^ 32) (2 ^ 8), div-one (n / 2 ^ 32))
-
 -- a turn of a loop that stores one element more
 pub put_more : (l : List ℕ) (at : ℕ) (us : List ℕ) (v : ℕ) → at + length us < length l → set (put l at us) (at + length us) v ≡ put l at (us ++ (v ∷ []))
 put_more l at us v h =
     let e = put_length l at us (omega arith) in
     set-put (put l at us) (at + length us) v (omega arith) ∙ put_then l at us (v ∷ []) (omega arith)
-
-pub copy_more : (l : List ℕ) (at : ℕ) (m : List ℕ) (i : ℕ) → at + length m ≤ length l → i < length m → set (put l at (take i m)) (at + i) (get_or m i 0) ≡ put l at (take (i + 1) m)
-copy_more l at m i h k =
-    let e : length (take i m) ≡ i = length-take-le i m (omega arith) in
-    rw (add-one i, take-suc m i 0 k)
-    (ap (λ (n : ℕ). set (put l at (take i m)) (at + n) (get_or m i 0)) (sym e) ∙ put_more l at (take i m) (get_or m i 0) (omega arith))
 
 pub alone : (v : ℕ) → v < 256 → v / 1 % 256 ≡ v
 alone v h = omega arith

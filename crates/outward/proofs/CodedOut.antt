@@ -2,44 +2,53 @@
 -- Assumes nothing.
 use mathlib.Core.Path.{◌≡◌, refl, sym, ap, ◌∙◌}
 use mathlib.Core.Bool.{Bool, true, false}
-use mathlib.Core.List.{List, [], ◌∷◌, ◌++◌, append-nil}
-use Prim.Native.Nat.{ℕ, ◌+◌, ◌-◌, ◌*◌, ◌/◌, ◌%◌, ◌<◌, ◌≤◌}
+use mathlib.Core.List.{List, [], ◌++◌}
+use Prim.Native.Nat.{ℕ, ◌-◌, ◌*◌, ◌/◌, ◌%◌, ◌<◌, ◌≤◌}
 use native.Mathlib.Omega.{arith}
 use borrow.Author.Tests.{lt-ltb}
 use lib.Dec.{lit≤}
-use lib.ListN.{length, get_or, take, drop}
-use lib.Seq.{length-take-le, drop-length, get_or-take, ext_get_or}
-use Rattle.octets.specs.Stores.{put}
-use Rattle.octets.proofs.Storing.{put_room}
+use lib.ListN.{length, get_or, take, drop, length-drop}
+use Rattle.std.proofs.Common.{Result, Ok, Err}
+use Rattle.std.specs.Result.{IsOk}
+use Rattle.refusals.specs.declared.Refusal.{Refusal}
+use Rattle.refusals.specs.Refusals.{outcome_number}
+use Rattle.refusals.proofs.Numbers.{above_zero}
+use lib.Seq.{length-take-le, get_or-take, ext_get_or}
 use Rattle.array.specs.Listed.{list}
-use Rattle.array.specs.CodingArray.{width_of, carried, lent, contents, coding_row, coding_array}
+use Rattle.array.specs.CodingArray.{width_of, lent, contents, coding_row, coding_array}
 use Rattle.array.proofs.Cells.{wide, width_below}
-use Rattle.array.proofs.PartSizes.{six}
 use Rattle.array.proofs.Filling.{list_length, list_at, list_same}
 use Rattle.code.specs.Code.{check_bytes}
 use Rattle.code.specs.CodeAnswers.{check_refusal, Checks}
 use Rattle.coded.specs.Coded.{information_row, row_checks, coded}
 use Rattle.coded.proofs.CodedRows.{coded_row}
 use Rattle.array.specs.PartLengths.{parts_refusal, refusal_beside}
-use Rattle.outward.specs.OutClauses.{Held, in_array, beside, output_by}
+use Rattle.outward.specs.OutClauses.{Held, in_array, beside, output_by, refusal_for}
 use Rattle.outward.specs.WayOut.{Sends}
 use Rattle.outward.proofs.Placing.{width_most, sent}
 
--- put at the end, over all that stood there
-pub put_end : (row check : List ℕ) (w : ℕ) → w + length check ≡ length row → put row w check ≡ take w row ++ check
-put_end row check w e =
-    put_room row w check (omega arith)
-    ∙ ap (λ (n : ℕ). take w row ++ check ++ drop n row) e
-    ∙ ap (λ (r : List ℕ). take w row ++ check ++ r) (drop-length row)
-    ∙ append-nil (take w row ++ check)
+taken_row : (fourteen : Bool) (w : ℕ) (row : List ℕ) → length row ≡ 240 → w ≡ width_of fourteen → check_refusal (length (take w row)) (length (drop w row)) ≡ 0
+unfolding check_refusal
+taken_row fourteen w row l e =
+    let d : length (drop w row) ≡ 240 - w = length-drop w row ∙ ap (λ (k : ℕ). k - w) l in
+    let f : length (take w row) ≡ w = length-take-le w row (omega (arith, width_most fourteen)) in
+    rw (f, d, e) (go fourteen)
+  where
+    go : (x : Bool) → check_refusal (width_of x) (240 - width_of x) ≡ 0
+    go true = refl
+    go false = refl
 
--- a row with the check bytes that were asked for
-pub row_with : (r w n : ℕ) (row out check after : List ℕ) → check_refusal w r ≡ 0 → w ≤ length row → length out ≡ r → Checks (take w row) out check n → after ≡ take w row ++ check
-    → after ≡ take w row ++ check_bytes r (take w row)
-row_with r w n row out check after z h e t a =
-    let q : n ≡ 0 = t.number ∙ rw (e, length-take-le w row h) z in
+-- a row split at its information columns, with the check bytes that were asked for behind them
+pub row_with : (fourteen : Bool) (w n : ℕ) (row check : List ℕ) → length row ≡ 240 → w ≡ width_of fourteen → Checks (take w row) (drop w row) check n → take w row ++ check ≡ take (width_of fourteen) row ++ check_bytes (240 - width_of fourteen) (take (width_of fourteen) row)
+row_with fourteen w n row check l e t =
+    let d : length (drop w row) ≡ 240 - w = length-drop w row ∙ ap (λ (k : ℕ). k - w) l in
     let b = t.bytes in
-    a ∙ ap (λ (x : List ℕ). take w row ++ x) (rw (q, e) at b)
+    let q : n ≡ 0 = t.number ∙ taken_row fourteen w row l e in
+    ap (λ (x : List ℕ). take w row ++ x) ((rw q at b) ∙ ap (λ (k : ℕ). check_bytes k (take w row)) d) ∙ ap (λ (v : ℕ). take v row ++ check_bytes (240 - v) (take v row)) e
+
+pub taken_ok : (fourteen : Bool) (w : ℕ) (row check : List ℕ) (t : Result (Unit {0}) Refusal) → length row ≡ 240 → w ≡ width_of fourteen → Checks (take w row) (drop w row) check (outcome_number t) → IsOk t
+taken_ok fourteen w row check (Ok x) l e t = refl
+taken_ok fourteen w row check (Err r) l e t = absurd (above_zero r (t.number ∙ taken_row fourteen w row l e))
 
 module _ {A : Type 0} (f : ℕ → A) where
   pub take-list : (w n : ℕ) → w ≤ n → take w (list f n) ≡ list f w
@@ -84,23 +93,17 @@ module _ (fourteen : Bool) (b m s g h out : List ℕ) where
   abbrev pub rows : List ℕ
   rows = row_checks w (lent b m s g h [])
 
-  rows_length : length rows ≡ 24 * (240 - w)
+  pub rows_length : length rows ≡ 24 * (240 - w)
   unfolding row_checks
   rows_length = list_length (λ n. get_or (check_bytes (240 - w) (information_row w (lent b m s g h []) (n / (240 - w)))) (n % (240 - w)) 0) (24 * (240 - w))
 
-  pub asked : (n k : ℕ) → k ≡ w → n ≡ parts_refusal w (length out) (length m) (length s) (length g) (length h) (24 * (240 - k)) → n ≡ refusal_beside w (lent b m s g h rows) out
-  asked n k q e =
-      e ∙ ap (parts_refusal w (length out) (length m) (length s) (length g) (length h)) (ap (λ (v : ℕ). 24 * (240 - v)) q ∙ sym rows_length)
+  pub asked : refusal_for (length b) (parts_refusal w (length out) (length m) (length s) (length g) (length h) (24 * (240 - w))) w ≡ refusal_for (length b) (refusal_beside w (lent b m s g h rows) out) w
+  asked = ap (λ (k : ℕ). refusal_for (length b) (parts_refusal w (length out) (length m) (length s) (length g) (length h) k) w) (sym rows_length)
 
   same_rows : row_checks w (in_array b m s []) ≡ rows
   unfolding row_checks information_row contents
   same_rows = refl
 
-  pub sent_coded : (n k : ℕ) (c : List (List ℕ)) (after : List ℕ) → k ≡ w → n ≡ parts_refusal w (length out) (length m) (length s) (length g) (length h) (24 * (240 - k)) → n ≡ 0 → length b ≤ carried w
+  pub sent_coded : (c : List (List ℕ)) (after : List ℕ) → 0 ≡ refusal_for (length b) (parts_refusal w (length out) (length m) (length s) (length g) (length h) (24 * (240 - w))) w
       → c ≡ coding_array w (coded w (in_array b m s [])) → after ≡ output_by (beside g h) c → Sends fourteen (coded w (lent b m s g h [])) out after 0
-  sent_coded n k c after q e z l a o =
-      sent fourteen b m s g h rows out n c after (asked n k q e) z l (a ∙ ap (λ (r : List ℕ). coding_array w (in_array b m s r)) same_rows) o
-
-  pub lengths_are : (n v j : ℕ) → n ≡ parts_refusal w (length out) (length m) (length s) (length g) (length h) v → n ≡ 0
-      → get_or (length out ∷ length m ∷ length s ∷ length g ∷ length h ∷ v ∷ []) j 0 ≡ get_or (6144 ∷ 24 ∷ 24 ∷ 192 ∷ 192 ∷ 24 * (240 - w) ∷ []) j 0
-  lengths_are n v j e z = six w (length out) (length m) (length s) (length g) (length h) v j (sym e ∙ z)
+  sent_coded c after e a o = sent fourteen b m s g h rows out c after (e ∙ asked) (a ∙ ap (λ (r : List ℕ). coding_array w (in_array b m s r)) same_rows) o

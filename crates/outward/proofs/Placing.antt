@@ -6,7 +6,7 @@ use mathlib.Core.List.{List, [], ◌∷◌, ◌++◌}
 use Prim.Native.Nat.{ℕ, zero, suc, ◌+◌, ◌-◌, ◌*◌, ◌/◌, ◌%◌, ◌<◌, ◌≤◌}
 use native.Mathlib.Nat.{le_of_eq, mul-le-mul, mul-le-mul_right, add-sub_cancel_left}
 use native.Mathlib.Omega.{arith}
-use borrow.Author.Tests.{lt-ltb, le-ltb, eq-eqb, ne_eqb}
+use borrow.Author.Tests.{lt-ltb, le-ltb, ltb-false, eq-eqb, ne_eqb, eqb-true}
 use lib.Dec.{eqb, ltb, lit<, lit≤}
 use lib.ListN.{length, get_or, take, drop, replicate, length-drop}
 use lib.Seq.{length-take-le, get_or-take, get_or-drop}
@@ -18,9 +18,9 @@ use Rattle.array.specs.Listed.{list}
 use Rattle.array.specs.CodingArray.{Wide, superblock, upper_row, width_of, carried, Parts, lent, taken, index_at, at, contents, coding_row, coding_array}
 use Rattle.array.specs.OutputArray.{received, row_at, column_at, output_at, output_of}
 use Rattle.array.specs.PartLengths.{refusal_beside}
-use Rattle.array.proofs.Filling.{Filled, filled_run, list_at, list_length, list_eq, list_same, list_all, get_d_any}
+use Rattle.array.proofs.Filling.{Filled, filled_run, list_at, list_eq, list_same, list_all, get_d_any}
 use Rattle.array.proofs.PartSizes.{six}
-use Rattle.outward.specs.OutClauses.{Free, Held, in_array, beside, output_by, upper_row_at, lower_row_at, Upper, Block, Lower, Columns, interleaved_at, interleaving_by, PutsLine}
+use Rattle.outward.specs.OutClauses.{Free, Held, in_array, beside, output_by, upper_row_at, lower_row_at, Upper, Block, Lower, Columns, interleaved_at, interleaving_by, PutsLine, refusal_for}
 use Rattle.outward.specs.WayOut.{out_refusal, Sends}
 
 -- ---- bounds
@@ -93,8 +93,8 @@ row_same w b all m s r i e =
     ap (λ (x : ℕ). pick (ltb j w) (pick (taken i j) (get_or (pick (eqb (i % 8) 0) m s) (i / 8 * 8 + j / 30) 0) x) (get_or r (i * (240 - w) + (j - w)) 0)) (e (index_at w i j)))
 
 -- ---- a block of an upper row
-module _ {w i k n : ℕ} {b m row : List ℕ} (B : Block w i k n b m row) where
-  U : Upper w i b m row
+module _ {w i k n : ℕ} {b m row : List ℕ} (B : Block w i k n b m row) (size : length b ≡ 5592) where
+  U : Upper w i m
   U = B.upper
 
   pub block_free : Free w i (30 * k + 1)
@@ -131,30 +131,13 @@ module _ {w i k n : ℕ} {b m row : List ℕ} (B : Block w i k n b m row) where
       let q : from ≡ i / 8 * superblock w + i % 2 * upper_row w + (30 * k + 1 - 1) - (30 * k + 1) / 30 = e ∙ rw (lt-ltb (i % 8) 2 U.upper) in
       let o : (30 * k + 1 + j) % 30 ≡ 0 → ⊥ = λ z. omega (arith, B.most) in
       rw (ne_eqb ((30 * k + 1 + j) % 30) 0 o, lt-ltb (i % 8) 2 U.upper)
-      (get_d_any b (from + j) 0 255 (omega (arith, block_fits from e, U.information)) ∙ ap (λ (a : ℕ). get_or b a 255) (omega (arith, B.most)))
+      (get_d_any b (from + j) 0 255 (omega (arith, block_fits from e, size)) ∙ ap (λ (a : ℕ). get_or b a 255) (omega (arith, B.most)))
 
-pub next_block : (w i k n : ℕ) (b m before row : List ℕ) → Upper w i b m before → k < 8 → 0 < n → n ≤ 29 → 30 * k + 1 + n ≤ w → Filled (upper_row_at w b m i) 0 240 row (30 * k) → Block w i k n b m row
-next_block w i k n b m before row U h s l q F =
-    record {
-      upper =
-          record {
-            wide = U.wide;
-            most = U.most;
-            within_array = U.within_array;
-            upper = U.upper;
-            information = U.information;
-            beside = U.beside;
-            room = F.size;
-          };
-      block = h;
-      some = s;
-      most = l;
-      within = q;
-      so_far = F;
-    }
+pub next_block : (w i k n : ℕ) (b m row : List ℕ) → Upper w i m → k < 8 → 0 < n → n ≤ 29 → 30 * k + 1 + n ≤ w → Filled (upper_row_at w b m i) 0 240 row (30 * k) → Block w i k n b m row
+next_block w i k n b m row U h s l q F = record { upper = U; block = h; some = s; most = l; within = q; so_far = F }
 
 -- ---- the other rows
-module _ {w i : ℕ} {b row : List ℕ} (L : Lower w i b row) where
+module _ {w i : ℕ} (L : Lower w i) where
   pub lower_free : Free w i 0
   lower_free =
       record {
@@ -177,21 +160,21 @@ module _ {w i : ℕ} {b row : List ℕ} (L : Lower w i b row) where
       let r = rows_of in
       omega (arith, below_super, L.wide, L.most)
 
-  pub lower_at : (from : ℕ) → from ≡ index_at w i 0 → (j : ℕ) → j < w → get_or b (from + j) 0 ≡ lower_row_at w b i (0 + j)
+  pub lower_at : (b : List ℕ) → length b ≡ 5592 → (from : ℕ) → from ≡ index_at w i 0 → (j : ℕ) → j < w → get_or b (from + j) 0 ≡ lower_row_at w b i (0 + j)
   unfolding lower_row_at index_at
-  lower_at from e j h =
+  lower_at b size from e j h =
       let q : from ≡ i / 8 * superblock w + i % 8 * w + 0 - 16 = e ∙ rw (le-ltb (i % 8) 2 L.lower) in
       let r = rows_of in
       rw (le-ltb (i % 8) 2 L.lower)
-      (get_d_any b (from + j) 0 255 (omega (arith, lower_fits from e, L.information)) ∙ ap (λ (a : ℕ). get_or b a 255) (omega (arith, L.wide)))
+      (get_d_any b (from + j) 0 255 (omega (arith, lower_fits from e, size)) ∙ ap (λ (a : ℕ). get_or b a 255) (omega (arith, L.wide)))
 
 -- ---- contents, row by row
-module _ {w i : ℕ} {b m s row : List ℕ} (C : Columns w i b m s row) where
-  pub upper_of : (x : List ℕ) → i % 8 < 2 → length x ≡ 24 → Upper w i b x row
-  upper_of x h e = record { wide = C.wide; most = C.most; within_array = C.within_array; upper = h; information = C.information; beside = e; room = C.room }
+module _ {w i : ℕ} {m s : List ℕ} (C : Columns w i m s) where
+  pub upper_of : (x : List ℕ) → i % 8 < 2 → length x ≡ 24 → Upper w i x
+  upper_of x h e = record { wide = C.wide; most = C.most; within_array = C.within_array; upper = h; beside = e }
 
-  pub lower_of : 2 ≤ i % 8 → Lower w i b row
-  lower_of h = record { wide = C.wide; most = C.most; within_array = C.within_array; lower = h; information = C.information; room = C.room }
+  pub lower_of : 2 ≤ i % 8 → Lower w i
+  lower_of h = record { wide = C.wide; most = C.most; within_array = C.within_array; lower = h }
 
 module _ (w i : ℕ) (b m s r : List ℕ) where
   upper_contents : (x : List ℕ) → i % 8 < 2 → pick (eqb (i % 8) 0) m s ≡ x → (j : ℕ) → j < w → upper_row_at w b x i j ≡ contents w (in_array b m s r) i j
@@ -218,9 +201,8 @@ module _ (w i : ℕ) (b m s r : List ℕ) where
 pub check_fits : (w i : ℕ) → i < 24 → i * (240 - w) + (240 - w) ≤ 24 * (240 - w)
 check_fits w i h = let m : (i + 1) * (240 - w) ≤ 24 * (240 - w) = mul-le-mul_right (240 - w) (omega arith) in omega arith
 
-pub columns_of : {w : ℕ} {p : Parts} (i : ℕ) (b row : List ℕ) → Held w p → length b ≡ 5592 → i < 24 → length row ≡ 240 → Columns w i b p.management p.supervision row
-columns_of i b row H e h l =
-    record { wide = H.wide; most = H.most; within_array = h; information = e; management = H.management; supervision = H.supervision; room = l }
+pub columns_of : {w : ℕ} {p : Parts} (i : ℕ) → Held w p → i < 24 → Columns w i p.management p.supervision
+columns_of i H h = record { wide = H.wide; most = H.most; within_array = h; management = H.management; supervision = H.supervision }
 
 -- whatever the information is
 pub held_any : {w : ℕ} (b all m s r : List ℕ) → Held w (in_array b m s r) → Held w (in_array all m s r)
@@ -232,10 +214,6 @@ column_at_lem c u k h =
     ap₂ (at c) (let e : u / 240 * 8 + k ≡ (8 * u + k) / 1920 * 8 + (8 * u + k) % 8 = omega arith in e) (let e : u % 240 ≡ (8 * u + k) % 1920 / 8 = omega arith in e)
 
 -- ---- the output array, line by line
-pub interleaving_length : (c : List (List ℕ)) (x : List ℕ) → x ≡ interleaving_by c → length x ≡ 5760
-unfolding interleaving_by
-interleaving_length c x e = ap length e ∙ list_length (interleaved_at c) 5760
-
 pub first_length : (n : ℕ) (l : List ℕ) → n < length l → length (take (n + 1 - n) (drop n l)) ≡ 1
 first_length n l k = ap (λ (j : ℕ). length (take j (drop n l))) (add-sub_cancel_left n 1) ∙ length-take-le 1 (drop n l) (rw length-drop (omega arith))
 
@@ -291,6 +269,18 @@ pub width_most : (x : Bool) → (211 < width_of x) × (width_of x ≤ 235)
 width_most true = (lit< tt, lit≤ tt)
 width_most false = (lit< tt, lit≤ tt)
 
+-- a length is refused first
+pub length_first : (i w n l : ℕ) → n ≡ l → n ≡ 1 → n ≡ refusal_for i l w
+length_first i w n l e q = q ∙ rw (← e, q) refl
+
+passed : (n c b : ℕ) → ◌≡◌ {A = ℕ} 0 (pick (eqb n 0) (pick (ltb c b) 23 0) 1) → (n ≡ 0) × (b ≤ c)
+passed n c b e = go (eqb n 0) refl (ltb c b) refl e
+  where
+    go : (x : Bool) → eqb n 0 ≡ x → (y : Bool) → ltb c b ≡ y → ◌≡◌ {A = ℕ} 0 (pick x (pick y 23 0) 1) → (n ≡ 0) × (b ≤ c)
+    go true f true k z = absurd (omega arith)
+    go true f false k z = (eqb-true n 0 f, ltb-false c b k)
+    go false f y k z = absurd (omega arith)
+
 module _ (fourteen : Bool) (b m s g h r out : List ℕ) where
   abbrev w : ℕ
   w = width_of fourteen
@@ -298,13 +288,10 @@ module _ (fourteen : Bool) (b m s g h r out : List ℕ) where
   abbrev p : Parts
   p = lent b m s g h r
 
-  pub refused_length : (n : ℕ) → n ≡ refusal_beside w p out → (n ≡ 0 → ⊥) → Sends fourteen p out out 1
+  -- what is refused leaves the output as it was
+  pub refused : (n : ℕ) → n ≡ refusal_for (length b) (refusal_beside w p out) w → (n ≡ 0 → ⊥) → Sends fourteen p out out n
   unfolding out_refusal
-  refused_length n e f = record { number = rw (← e, ne_eqb n 0 f); bytes = refl }
-
-  pub refused_carried : (n : ℕ) → n ≡ refusal_beside w p out → n ≡ 0 → carried w < length b → Sends fourteen p out out 23
-  unfolding out_refusal
-  refused_carried n e z f = record { number = rw (← e, z, lt-ltb (carried w) (length b) f); bytes = refl }
+  refused n e f = record { number = e; bytes = rw (ne_eqb n 0 f) }
 
   same_array : coding_array w (in_array b m s r) ≡ coding_array w p
   unfolding coding_array coding_row contents
@@ -314,18 +301,20 @@ module _ (fourteen : Bool) (b m s g h r out : List ℕ) where
   unfolding output_by output_at
   same_output c = refl
 
-  pub sent : (n : ℕ) (c : List (List ℕ)) (after : List ℕ) → n ≡ refusal_beside w p out → n ≡ 0 → length b ≤ carried w → c ≡ coding_array w (in_array b m s r) → after ≡ output_by (beside g h) c → Sends fourteen p out after 0
+  -- what is not refused has the lengths of the variant, and no more information than it carries
+  accepted : 0 ≡ refusal_for (length b) (refusal_beside w p out) w → (refusal_beside w p out ≡ 0) × (length b ≤ carried w)
+  accepted e = passed (refusal_beside w p out) (carried w) (length b) e
+
+  pub sent : (c : List (List ℕ)) (after : List ℕ) → 0 ≡ refusal_for (length b) (refusal_beside w p out) w → c ≡ coding_array w (in_array b m s r) → after ≡ output_by (beside g h) c → Sends fourteen p out after 0
   unfolding out_refusal output_of output_by
-  sent n c after e z f q a =
-      record {
-        number = rw (← e, z, le-ltb (carried w) (length b) f);
-        bytes = a ∙ same_output c ∙ ap (output_by p) (q ∙ same_array);
-      }
+  sent c after e q a = record { number = e; bytes = a ∙ same_output c ∙ ap (output_by p) (q ∙ same_array) }
 
-  pub held : (n k : ℕ) → n ≡ refusal_beside w p out → n ≡ 0 → k ≡ w → Wide k → Held k (in_array b m s r)
-  held n k e z q W =
-      let f : (k : ℕ) → _ = λ k. six w (length out) (length m) (length s) (length g) (length h) (length r) k (sym e ∙ z) in
-      record { wide = W; most = rw q (width_most fourteen); management = f 1; supervision = f 2; check = le_of_eq (sym (f 5 ∙ ap (λ (v : ℕ). 24 * (240 - v)) (sym q))) }
+  pub lengths_of : (k : ℕ) → 0 ≡ refusal_for (length b) (refusal_beside w p out) w → get_or (length out ∷ length m ∷ length s ∷ length g ∷ length h ∷ length r ∷ []) k 0 ≡ get_or (6144 ∷ 24 ∷ 24 ∷ 192 ∷ 192 ∷ 24 * (240 - w) ∷ []) k 0
+  lengths_of k e = six w (length out) (length m) (length s) (length g) (length h) (length r) k (accepted e).0
 
-  pub lengths_of : (n k : ℕ) → n ≡ refusal_beside w p out → n ≡ 0 → get_or (length out ∷ length m ∷ length s ∷ length g ∷ length h ∷ length r ∷ []) k 0 ≡ get_or (6144 ∷ 24 ∷ 24 ∷ 192 ∷ 192 ∷ 24 * (240 - w) ∷ []) k 0
-  lengths_of n k e z = six w (length out) (length m) (length s) (length g) (length h) (length r) k (sym e ∙ z)
+  pub most : 0 ≡ refusal_for (length b) (refusal_beside w p out) w → length b ≤ 5592
+  most e = omega (arith, (accepted e).1, width_most fourteen)
+
+  pub held : (k : ℕ) → 0 ≡ refusal_for (length b) (refusal_beside w p out) w → k ≡ w → Wide k → Held k (in_array b m s r)
+  held k e q W =
+      record { wide = W; most = rw q (width_most fourteen); management = lengths_of 1 e; supervision = lengths_of 2 e; check = le_of_eq (sym (lengths_of 5 e ∙ ap (λ (v : ℕ). 24 * (240 - v)) (sym q))) }

@@ -1,9 +1,9 @@
 -- Nothing in this file need be believed: clauses between private functions.
 -- Assumes nothing.
-use Rattle.std.specs.Prelude.{false, List, [], ◌≡◌, ℕ, ◌+◌, ◌-◌, ◌*◌, ◌/◌, ◌%◌, ◌<◌, ◌≤◌, eqb, length, get_or}
+use Rattle.std.specs.Prelude.{false, List, [], ◌≡◌, ℕ, ◌+◌, ◌-◌, ◌*◌, ◌/◌, ◌%◌, ◌<◌, ◌≤◌, eqb, ltb, length, get_or}
 use Rattle.octets.specs.Choice.{pick}
 use Rattle.array.specs.Listed.{list}
-use Rattle.array.specs.CodingArray.{Wide, Parts, taken, at, index_at}
+use Rattle.array.specs.CodingArray.{Wide, carried, Parts, taken, at, index_at}
 use Rattle.array.specs.OutputArray.{output_at}
 use Rattle.array.proofs.Filling.{Filled}
 
@@ -34,40 +34,34 @@ upper_row_at w b m i j = pick (eqb (j % 30) 0) (get_or m (i / 8 * 8 + j / 30) 0)
 unfoldable pub lower_row_at : ℕ → List ℕ → ℕ → ℕ → ℕ
 lower_row_at w b i j = get_or b (index_at w i j) 0xFF
 
-pub record Upper (w i : ℕ) (b m row : List ℕ) : Type 0 where
+pub record Upper (w i : ℕ) (m : List ℕ) : Type 0 where
   pub wide : Wide w
   pub most : (211 < w) × (w ≤ 235)
   pub within_array : i < 24
   pub upper : i % 8 < 2
-  pub information : length b ≡ 5592
   pub beside : length m ≡ 24
-  pub room : length row ≡ 240
 
 -- block k comes next, with n information bytes
 pub record Block (w i k n : ℕ) (b m row : List ℕ) : Type 0 where
-  pub upper : Upper w i b m row
+  pub upper : Upper w i m
   pub block : k < 8
   pub some : 0 < n
   pub most : n ≤ 29
   pub within : 30 * k + 1 + n ≤ w
   pub so_far : Filled (upper_row_at w b m i) 0 240 row (30 * k)
 
-pub record Lower (w i : ℕ) (b row : List ℕ) : Type 0 where
+pub record Lower (w i : ℕ) : Type 0 where
   pub wide : Wide w
   pub most : (211 < w) × (w ≤ 235)
   pub within_array : i < 24
   pub lower : 2 ≤ i % 8
-  pub information : length b ≡ 5592
-  pub room : length row ≡ 240
 
-pub record Columns (w i : ℕ) (b m s row : List ℕ) : Type 0 where
+pub record Columns (w i : ℕ) (m s : List ℕ) : Type 0 where
   pub wide : Wide w
   pub most : (211 < w) × (w ≤ 235)
   pub within_array : i < 24
-  pub information : length b ≡ 5592
   pub management : length m ≡ 24
   pub supervision : length s ≡ 24
-  pub room : length row ≡ 240
 
 -- byte p of the interleaving array, and the array
 abbrev pub interleaved_at : List (List ℕ) → ℕ → ℕ
@@ -89,3 +83,7 @@ beside g h =
 
 unfoldable pub output_by : Parts → List (List ℕ) → List ℕ
 output_by p c = list (output_at p c) 6144
+
+-- 1 for lengths that are refused, then 23 for more information than the variant carries
+abbrev pub refusal_for : ℕ → ℕ → ℕ → ℕ
+refusal_for information lengths w = pick (eqb lengths 0) (pick (ltb (carried w) information) 23 0) 1

@@ -6,8 +6,12 @@ ghost use Rattle.code.specs.Code.{check_bytes};
 ghost use Rattle.coded.specs.Coded.{coded};
 ghost use Rattle.array.specs.CodingArray.{width_of, lent, index_at, contents, coding_row, coding_array};
 ghost use Rattle.array.proofs.Filling.{Filled};
-ghost use Rattle.outward.specs.OutClauses.{Free, Held, in_array, beside, output_by, upper_row_at, lower_row_at, Block, Upper, Lower, Columns, interleaved_at, interleaving_by, PutsLine};
+ghost use Rattle.outward.specs.OutClauses.{Free, Held, in_array, beside, output_by, upper_row_at, lower_row_at, Block, Upper, Lower, Columns, interleaved_at, interleaving_by, PutsLine, refusal_for};
+ghost use Rattle.array.specs.PartLengths.{parts_refusal};
 ghost use Rattle.outward.specs.WayOut.{Sends};
+ghost use Rattle.refusals.specs.Refusals.{outcome_number};
+
+use refusals::Refusal;
 
 // The information bytes, and FF behind them, as far as either variant carries.
 fn filled(information: &[u8]) -> [u8; 5592]
@@ -33,13 +37,13 @@ fn index_at(w: usize, i: usize, j: usize) -> usize
 
 // Block b of a first or second row of a superblock: a byte from beside, then n information bytes.
 fn put_block(
-    information: &[u8],
+    information: &[u8; 5592],
     beside: &[u8],
     w: usize,
     i: usize,
     b: usize,
     n: usize,
-    row: &mut [u8],
+    row: &mut [u8; 240],
 )
     requires { Block w i b n information.now beside.now row.old }
     ensures { Filled (upper_row_at w information.now beside.now i) 0 240 row.new (30 * b + 1 + n) }
@@ -50,20 +54,18 @@ fn put_block(
     putting::put_bytes(row, 30 * b + 1, &information[from..from + n]);
 }
 
-fn put_upper_row(information: &[u8], beside: &[u8], w: usize, i: usize, row: &mut [u8])
-    requires { Upper w i information.now beside.now row.old }
+fn put_upper_row(information: &[u8; 5592], beside: &[u8], w: usize, i: usize, row: &mut [u8; 240])
+    requires { Upper w i beside.now }
     ensures { Filled (upper_row_at w information.now beside.now i) 0 240 row.new w }
 {
-    let mut b = 0;
-    while b < 7 {
+    for b in 0..7 {
         put_block(information, beside, w, i, b, 29, row);
-        b += 1;
     }
     put_block(information, beside, w, i, 7, w - 211, row);
 }
 
-fn put_lower_row(information: &[u8], w: usize, i: usize, row: &mut [u8])
-    requires { Lower w i information.now row.old }
+fn put_lower_row(information: &[u8; 5592], w: usize, i: usize, row: &mut [u8; 240])
+    requires { Lower w i }
     ensures { Filled (lower_row_at w information.now i) 0 240 row.new w }
 {
     let from = index_at(w, i, 0);
@@ -72,37 +74,33 @@ fn put_lower_row(information: &[u8], w: usize, i: usize, row: &mut [u8])
 
 // The information's columns of row i.
 fn put_columns(
-    information: &[u8],
+    information: &[u8; 5592],
     management: &[u8],
     supervision: &[u8],
     w: usize,
     i: usize,
-    row: &mut [u8],
+    row: &mut [u8; 240],
 )
-    requires { Columns w i information.now management.now supervision.now row.old }
+    requires { Columns w i management.now supervision.now }
     ensures { (r : List ℕ) → Filled (contents w (in_array information.now management.now supervision.now r) i) 0 240 row.new w }
 {
-    if i % 8 == 0 {
-        put_upper_row(information, management, w, i, row);
-        return;
+    match i % 8 {
+        0 => put_upper_row(information, management, w, i, row),
+        1 => put_upper_row(information, supervision, w, i, row),
+        _ => put_lower_row(information, w, i, row),
     }
-    if i % 8 == 1 {
-        put_upper_row(information, supervision, w, i, row);
-        return;
-    }
-    put_lower_row(information, w, i, row);
 }
 
 // Row i of the coding array.
 fn coding_row(
-    information: &[u8],
+    information: &[u8; 5592],
     management: &[u8],
     supervision: &[u8],
     check: &[u8],
     w: usize,
     i: usize,
 ) -> [u8; 240]
-    requires { (Held w (in_array information.now management.now supervision.now check.now)) × (length information.now ≡ 5592) × (i < 24) }
+    requires { (Held w (in_array information.now management.now supervision.now check.now)) × (i < 24) }
     ensures { result ≡ coding_row w (in_array information.now management.now supervision.now check.now) i }
 {
     let mut row = [0u8; 240];
@@ -125,48 +123,20 @@ fn coding_array(
     let all = filled(information);
     let empty = [0u8; 240];
     let mut array = [empty; 24];
-    let mut i = 0;
-    while i < 24 {
-        array[i] = coding_row(&all, management, supervision, check, w, i);
-        i += 1;
+    for (i, row) in array.iter_mut().enumerate() {
+        *row = coding_row(&all, management, supervision, check, w, i);
     }
     array
 }
 
-// The row with other check bytes behind its first w columns.
-fn put_check(row: [u8; 240], w: usize, check: &[u8]) -> [u8; 240]
-    requires { w + length check.now ≡ 240 }
-    ensures { result ≡ take w row ++ check.now }
-{
-    let mut out = row;
-    putting::put_bytes(&mut out, w, check);
-    out
-}
-
 // The row with the check bytes of its information columns.
-fn with_five(row: [u8; 240]) -> [u8; 240]
-    ensures { result ≡ take 235 row ++ check_bytes 5 (take 235 row) }
-{
-    let mut check = [0u8; 5];
-    code::check_bytes(&row[..235], &mut check);
-    put_check(row, 235, &check)
-}
-
-fn with_fourteen(row: [u8; 240]) -> [u8; 240]
-    ensures { result ≡ take 226 row ++ check_bytes 14 (take 226 row) }
-{
-    let mut check = [0u8; 14];
-    code::check_bytes(&row[..226], &mut check);
-    put_check(row, 226, &check)
-}
-
 fn coded_row(row: [u8; 240], fourteen: bool) -> [u8; 240]
     ensures { result ≡ take (width_of fourteen) row ++ check_bytes (240 - width_of fourteen) (take (width_of fourteen) row) }
 {
-    if fourteen {
-        return with_fourteen(row);
-    }
-    with_five(row)
+    let mut out = row;
+    let (information, check) = out.split_at_mut(array::width(fourteen));
+    code::check_bytes(information, check).unwrap();
+    out
 }
 
 // The coding array with its rows' check bytes.
@@ -184,24 +154,20 @@ fn coded_array(
     let none = [0u8; 336];
     let empty = [0u8; 240];
     let mut array = [empty; 24];
-    let mut i = 0;
-    while i < 24 {
-        let row = coding_row(&all, management, supervision, &none, w, i);
-        array[i] = coded_row(row, fourteen);
-        i += 1;
+    for (i, row) in array.iter_mut().enumerate() {
+        let uncoded = coding_row(&all, management, supervision, &none, w, i);
+        *row = coded_row(uncoded, fourteen);
     }
     array
 }
 
 // Column u, counted through the superblocks: its eight bytes stand together in the interleaving array.
-fn put_column(array: &[[u8; 240]; 24], u: usize, out: &mut [u8])
+fn put_column(array: &[[u8; 240]; 24], u: usize, out: &mut [u8; 5760])
     requires { (u < 720) × (Filled (interleaved_at array.now) 0 5760 out.old (8 * u)) }
     ensures { Filled (interleaved_at array.now) 0 5760 out.new (8 * u + 8) }
 {
-    let mut k = 0;
-    while k < 8 {
+    for k in 0..8 {
         out[8 * u + k] = array[u / 240 * 8 + k][u % 240];
-        k += 1;
     }
 }
 
@@ -209,17 +175,15 @@ fn interleaving(array: &[[u8; 240]; 24]) -> [u8; 5760]
     ensures { result ≡ interleaving_by array.now }
 {
     let mut out = [0u8; 5760];
-    let mut u = 0;
-    while u < 720 {
+    for u in 0..720 {
         put_column(array, u, &mut out);
-        u += 1;
     }
     out
 }
 
 // A line of sixteen bytes of the output array: one of G.704, then fifteen of the interleaving array.
-fn put_line(array: &[u8], line: usize, first: &[u8], output: &mut [u8])
-    requires { (length array.now ≡ 5760) × (line < 384) × (length first.now ≡ 1) × (length output.old ≡ 6144) }
+fn put_line(array: &[u8; 5760], line: usize, first: &[u8], output: &mut [u8])
+    requires { (line < 384) × (length first.now ≡ 1) × (length output.old ≡ 6144) }
     ensures { PutsLine array.now line first.now output.old output.new }
 {
     putting::put_bytes(output, 16 * line, first);
@@ -231,15 +195,42 @@ fn put_output(array: &[[u8; 240]; 24], synchronising: &[u8], signalling: &[u8], 
     ensures { output.new ≡ output_by (beside synchronising.now signalling.now) array.now }
 {
     let interleaved = interleaving(array);
-    let mut n = 0;
-    while n < 192 {
+    for n in 0..192 {
         put_line(&interleaved, 2 * n, &synchronising[n..n + 1], output);
         put_line(&interleaved, 2 * n + 1, &signalling[n..n + 1], output);
-        n += 1;
     }
 }
 
-// The output array of information, management, supervision, synchronising, signalling and check bytes, or a refusal's number.
+// Refused where a part or the output has another length than the variant's, then where there is more information than it carries.
+fn fits(
+    information: usize,
+    fourteen: bool,
+    management: usize,
+    supervision: usize,
+    synchronising: usize,
+    signalling: usize,
+    check: usize,
+    output: usize,
+) -> Result<(), Refusal>
+    ensures { outcome_number result ≡ refusal_for information (parts_refusal (width_of fourteen) output management supervision synchronising signalling check) (width_of fourteen) }
+{
+    array::lengths(
+        fourteen,
+        output,
+        management,
+        supervision,
+        synchronising,
+        signalling,
+        check,
+    )?;
+    if 3 * (array::width(fourteen) * 8 - 16) < information {
+        return Err(Refusal::TooLong);
+    }
+    Ok(())
+}
+
+// The output array of information, management, supervision, synchronising, signalling and check bytes.
+// The parts come one by one, as C lends them.
 pub fn out(
     information: &[u8],
     fourteen: bool,
@@ -249,28 +240,23 @@ pub fn out(
     signalling: &[u8],
     check: &[u8],
     output: &mut [u8],
-) -> u8
-    ensures { Sends fourteen (lent information.now management.now supervision.now synchronising.now signalling.now check.now) output.old output.new result }
+) -> Result<(), Refusal>
+    ensures { Sends fourteen (lent information.now management.now supervision.now synchronising.now signalling.now check.now) output.old output.new (outcome_number result) }
 {
-    let wrong = array::lengths(
+    fits(
+        information.len(),
         fourteen,
-        output.len(),
         management.len(),
         supervision.len(),
         synchronising.len(),
         signalling.len(),
         check.len(),
-    );
-    if wrong != 0 {
-        return 1;
-    }
+        output.len(),
+    )?;
     let w = array::width(fourteen);
-    if 3 * (w * 8 - 16) < information.len() {
-        return 23;
-    }
     let array = coding_array(information, management, supervision, check, w);
     put_output(&array, synchronising, signalling, output);
-    0
+    Ok(())
 }
 
 // The same with the rows' check bytes, which no one lends.
@@ -282,26 +268,20 @@ pub fn out_coded(
     synchronising: &[u8],
     signalling: &[u8],
     output: &mut [u8],
-) -> u8
-    ensures { Sends fourteen (coded (width_of fourteen) (lent information.now management.now supervision.now synchronising.now signalling.now [])) output.old output.new result }
+) -> Result<(), Refusal>
+    ensures { Sends fourteen (coded (width_of fourteen) (lent information.now management.now supervision.now synchronising.now signalling.now [])) output.old output.new (outcome_number result) }
 {
-    let w = array::width(fourteen);
-    let wrong = array::lengths(
+    fits(
+        information.len(),
         fourteen,
-        output.len(),
         management.len(),
         supervision.len(),
         synchronising.len(),
         signalling.len(),
-        24 * (240 - w),
-    );
-    if wrong != 0 {
-        return 1;
-    }
-    if 3 * (w * 8 - 16) < information.len() {
-        return 23;
-    }
+        24 * (240 - array::width(fourteen)),
+        output.len(),
+    )?;
     let array = coded_array(information, management, supervision, fourteen);
     put_output(&array, synchronising, signalling, output);
-    0
+    Ok(())
 }

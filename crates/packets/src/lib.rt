@@ -9,5 +9,5 @@ ghost use Rattle.edi.specs.Regenerating.{Regenerates};
 pub extern "C" fn spindlewren_edi(packet: &[u8], choice: u8, out: &mut [u8]) -> u8
     ensures { Regenerates packet.now (not (eqb choice 0)) out.old out.new result }
 {
-    edi::regenerate(packet, choice != 0, out)
+    refusals::outcome(edi::regenerate(packet, choice != 0, out))
 }

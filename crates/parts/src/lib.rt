@@ -24,10 +24,10 @@ fn main_span(frame: &[u8]) -> Span
 fn main_place(frame: &[u8]) -> Span
     ensures { result ≡ main_part frame.now }
 {
-    if judging::judge(frame) != 0 {
-        return Span { start: 0, len: 0 };
+    match judging::judge(frame) {
+        Ok(()) => main_span(frame),
+        Err(_) => Span { start: 0, len: 0 },
     }
-    main_span(frame)
 }
 
 fn part(frame: &[u8], place: Span) -> &[u8]

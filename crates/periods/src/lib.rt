@@ -3,24 +3,25 @@
 
 ghost use Rattle.std.specs.Prelude.{true, false, ◌≡◌, ◌+◌, ◌≤◌, ◌<◌, length};
 ghost use Rattle.frame.specs.Rules.{refusal_of};
+ghost use Rattle.refusals.specs.Refusals.{outcome_number};
 ghost use Rattle.periods.specs.Periods.{part, fsync1_at, NoneStands};
 
-// Whether the period at p is there, of n bytes.
-fn whole(n: usize, p: usize) -> bool
-    ensures { (result ≡ true → p + 6144 ≤ n) × (result ≡ false → n < p + 6144) }
+use refusals::Refusal;
+
+// Whether the period at p is there.
+pub fn whole(bytes: &[u8], p: usize) -> bool
+    ensures { (result ≡ true → p + 6144 ≤ length bytes.now) × (result ≡ false → length bytes.now < p + 6144) }
 {
-    if n < 6144 {
-        return false;
-    }
-    p <= n - 6144
+    let n = bytes.len();
+    n >= 6144 && p <= n - 6144
 }
 
-// The refusal number of the period at p.
-pub fn judge_at(bytes: &[u8], p: usize) -> u8
-    ensures { result ≡ refusal_of (part bytes.now p) }
+// Why the period at p is refused, if it is.
+pub fn judge_at(bytes: &[u8], p: usize) -> Result<(), Refusal>
+    ensures { outcome_number result ≡ refusal_of (part bytes.now p) }
 {
-    if !whole(bytes.len(), p) {
-        return 1;
+    if !whole(bytes, p) {
+        return Err(Refusal::Length);
     }
     let e = p + 6144;
     judging::judge(&bytes[p..e])
@@ -30,7 +31,7 @@ pub fn judge_at(bytes: &[u8], p: usize) -> u8
 pub fn fsync1_at(bytes: &[u8], p: usize) -> bool
     ensures { result ≡ fsync1_at bytes.now p }
 {
-    if whole(bytes.len(), p) {
+    if whole(bytes, p) {
         let e = p + 6144;
         return judging::is_fsync1(&bytes[p..e]);
     }
@@ -48,21 +49,20 @@ fn mark_at(bytes: &[u8], p: usize) -> bool
     ((a ^ b) == 0x3D) & ((b ^ c) == 0x8C)
 }
 
-// Whether one of the 64 places from p on begins like a frame. There is no early exit, so that the loop compiles to vector compares.
+// Whether one of the 64 places from p on begins like a frame. No early exit, as `any` has, so that the loop compiles to vector compares.
 fn marked(bytes: &[u8], p: usize) -> bool
     requires { p + 6208 ≤ length bytes.now }
     ensures { result ≡ false → NoneStands bytes.now p (p + 64) }
 {
     let mut found = false;
-    let mut i = 0;
-    while i < 64 {
+    for i in 0..64 {
         found = found | mark_at(bytes, p + i);
-        i += 1;
     }
     found
 }
 
 // On past the whole blocks of 64 places in which nothing begins like a frame. 6208 is 64 and a period.
+// A `while`: the place after the last whole block is what it hands back, which a range stepped by 64 would have to reckon again.
 fn past_unmarked(bytes: &[u8], from: usize) -> usize
     ensures { NoneStands bytes.now from result }
 {
@@ -88,13 +88,12 @@ pub fn next_mark(bytes: &[u8], from: usize) -> usize
     if n < 6144 {
         return from;
     }
-    let last = n - 6144;
-    let mut p = past_unmarked(bytes, from);
-    while p <= last {
+    let start = past_unmarked(bytes, from);
+    let end = n - 6143;
+    for p in start..end {
         if mark_at(bytes, p) {
             return p;
         }
-        p += 1;
     }
-    p
+    start.max(end)
 }

@@ -13,11 +13,11 @@ use Rattle.octets.specs.Choice.{pick}
 use Rattle.octets.proofs.Deciding.{neither, clash}
 use Rattle.capacity.specs.Sizes.{units_in}
 use Rattle.places.specs.declared.Place.{Place}
-use Rattle.places.specs.Places.{places_to, some, some_pair, same_scid, unsized, beyond, meets, place_rules}
+use Rattle.places.specs.Places.{some, some_pair, same_scid, unsized, beyond, meets, place_rules}
 use Rattle.profile.specs.declared.Notes.{Notes}
-use Rattle.profile.specs.ProfileClauses.{Halved, place_by, laid_to, end_by, end_at, EndsBy, total_to, Tallied, past, ahead, Noted, Adds}
+use Rattle.profile.specs.ProfileClauses.{place_by, laid_to, end_by, end_at, EndsBy, past, ahead, Noted, Adds}
 use Rattle.profile.proofs.Pairs.{some_snoc, pair_snoc, none_too, none_at_all}
-use Rattle.profile.proofs.Tables.{laid_more, laid_places}
+use Rattle.profile.proofs.Tables.{laid_more}
 
 and-false : (a : Bool) → (a && false) ≡ false
 and-false true = refl
@@ -94,11 +94,11 @@ module _ (p : Place) (m : ℕ) (h : p.sad < p.end) (l : m ≤ p.sad) (q : Place)
           rw (le-ltb p.end q.end k) (and-false (ltb q.sad q.end))
 
 -- ---- the notes of one stream more; m is where it ends
-at_end : (p : Place) → p.sad < p.end → end_at p ≡ p.end
+pub at_end : (p : Place) → p.sad < p.end → end_at p ≡ p.end
 unfolding end_at
 at_end p h = rw (lt-ltb p.sad p.end h)
 
-no_end : (p : Place) → p.end ≤ p.sad → end_at p ≡ 0
+pub no_end : (p : Place) → p.end ≤ p.sad → end_at p ≡ 0
 unfolding end_at
 no_end p h = rw (le-ltb p.sad p.end h)
 
@@ -146,7 +146,7 @@ noted notes p sad stl m a b o =
     (subst (λ (y : ℕ). Adds notes p (notes_by notes p.sad y m)) (sym b) (with_end notes p m o))
 
 -- where a stream of a table ends
-end_same : (sad units : ℕ) → end_by sad units ≡ pick (ltb sad (sad + units)) (sad + units) 0
+pub end_same : (sad units : ℕ) → end_by sad units ≡ pick (ltb sad (sad + units)) (sad + units) 0
 unfolding end_by
 end_same sad units = go (eqb units 0) refl
   where
@@ -276,14 +276,3 @@ unfolding end_at
 fallen_on highs lows ends n i found m h e d =
     subst (λ (ps : List Place). Fallen ps (found || (eqb (get_or ends i 0) 0 || ltb m (get_or ends i 0))) (get_or highs i 0 % 1024)) (sym (laid_more highs lows i))
     (fallen_more (laid_to highs lows i) (place_by (get_or highs i 0) (get_or lows i 0)) found m (get_or ends i 0) (e i h ∙ end_same (get_or highs i 0 % 1024) (units_in (get_or lows i 0))) d)
-
--- ---- what is said of the streams of two tables, said of the frame's
-module _ (f : List ℕ) (n : ℕ) (highs lows : List ℕ) (m : n ≤ 64) (u : Halved f highs lows) where
-  pub scids_told : (marks : List ℕ) (t : ℕ) → Tallied marks n (laid_to highs lows n) → t ≡ total_to marks 64 → ltb t n ≡ some_pair same_scid (places_to f n)
-  scids_told marks t y e = ap (λ (x : ℕ). ltb x n) e ∙ y.fewer ∙ ap (some_pair same_scid) (laid_places f n highs lows m u)
-
-  pub apart_told : some_pair meets (laid_to highs lows n) ≡ false → false ≡ some_pair meets (places_to f n)
-  apart_told d = sym (sym (ap (some_pair meets) (laid_places f n highs lows m u)) ∙ d)
-
-  pub notes_told : (r : Notes) → Noted (laid_to highs lows n) r → Noted (places_to f n) r
-  notes_told r d = subst (λ (ps : List Place). Noted ps r) (laid_places f n highs lows m u) d

@@ -1,1 +1,2 @@
 pub mod ProfileClauses
+pub mod StreamClauses

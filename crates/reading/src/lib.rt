@@ -1,4 +1,4 @@
-// Reading one network frame: its fields and stream table, or its refusal number.
+// Reading one network frame: its fields and stream table, or why it is refused.
 #![tactic(auto)]
 
 ghost use Rattle.std.specs.Prelude.{[], ◌≡◌, ◌≤◌, eqb};
@@ -6,16 +6,14 @@ ghost use Rattle.sum.specs.Sum.{sum_of};
 ghost use Rattle.frame.specs.Frame.{streams_to, level_by, main_of};
 ghost use Rattle.frame.specs.Answers.{table_by, Reads, header_for, timestamp_for};
 
-use frame::{Answer, Header, Reading, Stream, Timestamp};
+use frame::{Header, Reading, Stream, Timestamp};
 
 // The level handed on.
+#[tactic(auto, using(octets::proofs::Deciding::tests), unfolding(frame::specs::Frame::level_by))]
 fn handed(level: u8, sum: u16, sent: u16) -> u8
     ensures { result ≡ level_by level (eqb sum sent) }
 {
-    if sum == sent {
-        return level;
-    }
-    if level < 2 { 2 } else { level }
+    if sum == sent { level } else { level.max(2) }
 }
 
 fn main_sum(frame: &[u8]) -> u16
@@ -29,16 +27,15 @@ fn main_sum(frame: &[u8]) -> u16
     )
 }
 
+#[tactic(auto, using(octets::proofs::Deciding::tests), unfolding(frame::specs::Answers::timestamp_for))]
 pub fn timestamp(n: u32) -> Timestamp
     ensures { result ≡ timestamp_for n }
 {
-    if n == 0xFFFFFF {
-        return Timestamp::Absent;
+    match n {
+        0xFFFFFF => Timestamp::Absent,
+        0..=0xF9FFFF => Timestamp::Time(n),
+        _ => Timestamp::Reserved(n),
     }
-    if n > 0xF9FFFF {
-        return Timestamp::Reserved(n);
-    }
-    Timestamp::Time(n)
 }
 
 fn header(frame: &[u8]) -> Header
@@ -53,7 +50,7 @@ fn header(frame: &[u8]) -> Header
     let worked = main_sum(frame);
     Header {
         level: handed(meaning::level(sync.err), worked, eof.sum),
-        fsync1: meaning::fsync(sync.fsync) == 1,
+        fsync1: meaning::is_fsync1(sync.fsync),
         fct: fc.fct,
         ficf: fc.ficf == 1,
         nst: fc.nst,
@@ -87,10 +84,8 @@ fn table(frame: &[u8], n: usize) -> [Stream; 64]
     ensures { result ≡ table_by (streams_to frame.now n) }
 {
     let mut table = no_streams();
-    let mut i = 0;
-    while i < n {
+    for i in 0..n {
         table[i] = fields::entry(frame, i);
-        i += 1;
     }
     table
 }
@@ -99,17 +94,18 @@ fn table(frame: &[u8], n: usize) -> [Stream; 64]
 pub fn read(frame: &[u8]) -> Reading
     ensures { Reads frame.now result }
 {
-    let refusal = judging::judge(frame);
-    if refusal != 0 {
-        return Reading {
-            answer: Answer::Refused(refusal),
+    match judging::judge(frame) {
+        Ok(()) => {
+            let header = header(frame);
+            let table = table(frame, header.nst as usize);
+            Reading {
+                answer: Ok(header),
+                table,
+            }
+        }
+        Err(refusal) => Reading {
+            answer: Err(refusal),
             table: no_streams(),
-        };
-    }
-    let header = header(frame);
-    let table = table(frame, header.nst as usize);
-    Reading {
-        answer: Answer::Accepted(header),
-        table,
+        },
     }
 }

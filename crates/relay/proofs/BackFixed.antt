@@ -3,17 +3,16 @@
 use mathlib.Core.List.{List, ◌++◌}
 use mathlib.Core.Path.{◌≡◌, refl, sym, ap₂, ◌∙◌}
 use Prim.Native.Nat.{ℕ}
-use Rattle.frame.specs.declared.Answer.{Answer}
-use Rattle.frame.specs.declared.Answer.TheVariants.{Accepted, Refused}
+use Rattle.std.specs.Prelude.{Ok, Err}
 use Rattle.frame.specs.declared.Fields.{Fields}
 use Rattle.frame.specs.declared.Reading.{Reading}
-use Rattle.frame.specs.Answers.{values_of, returned_of, sums_of}
+use Rattle.frame.specs.Answers.{Answer, values_of, returned_of, sums_of}
 use Rattle.frame.proofs.Fixed.{answer_fixed}
 use Rattle.relay.specs.Back.{ReadsBack}
 
 parted : (a : Answer) → values_of a ≡ returned_of a ++ sums_of a
-parted (Accepted h) = refl
-parted (Refused n) = refl
+parted (Ok h) = refl
+parted (Err n) = refl
 
 pub back_fixed : (x : Fields) (m was is : List ℕ) (r q : Reading) → ReadsBack x m was is r → ReadsBack x m was is q → r ≡ q
 back_fixed x m was is r q a b =

@@ -9,7 +9,7 @@ use denote.Ref.{Bor}
 use lib.Dec.{eqb}
 use lib.ListN.{length, replicate}
 use lib.Seq.{take_at}
-use Rattle.frame.specs.declared.Answer.TheVariants.{Accepted}
+use Rattle.std.specs.Prelude.{Ok}
 use Rattle.frame.specs.declared.Fields.{Fields}
 use Rattle.frame.specs.declared.Header.{Header}
 use Rattle.frame.specs.declared.Reading.{Reading}
@@ -30,7 +30,7 @@ use Rattle.trips.proofs.ReadWritable.{read_unrefused}
 use Rattle.relay.specs.Relaying.{fields_with, fields_for, relay_refusal_of, Relays}
 
 -- an accepted answer's header and table are the frame's, so the fields put together of them are
-pub got_fields : (f : List ℕ) (r : Reading) → Reads f r → (h : Header) → r.answer ≡ Accepted h → fields_with h r.table ≡ fields_for f
+pub got_fields : (f : List ℕ) (r : Reading) → Reads f r → (h : Header) → r.answer ≡ Ok h → fields_with h r.table ≡ fields_for f
 unfolding fields_for
 got_fields f r reads h e = ap₂ fields_with (got_header f r reads h e) (got_table f r reads h e)
 

@@ -7,7 +7,10 @@ use native.Mathlib.Nat.{le_of_lt}
 use native.Mathlib.Omega.{arith}
 use borrow.Author.Tests.{eq-eqb, ne_eqb}
 use lib.ListN.{length, get_or, take, drop}
-use Rattle.frame.specs.declared.Answer.TheVariants.{Refused}
+use Rattle.std.specs.Prelude.{Err}
+use Rattle.refusals.specs.declared.Refusal.{Refusal}
+use Rattle.refusals.specs.Refusals.{refusal_number}
+use Rattle.refusals.proofs.Numbers.{above_zero}
 use Rattle.frame.specs.declared.Fields.{Fields}
 use Rattle.frame.specs.declared.Reading.{Reading}
 use Rattle.frame.specs.declared.Span.{Span}
@@ -64,19 +67,19 @@ module _ (x : Fields) (m f : List ℕ) (t : Returned x m f) where
         stream = stream_back;
       }
 
-module _ (x : Fields) (m was is : List ℕ) (n : ℕ) (w : Writes x m was is n) where
-  -- refused: writing's number, and the output as it was
-  pub back_refused : (n ≡ 0 → ⊥) → (t : List Stream) → t ≡ table_by [] → ReadsBack x m was is (record { answer = Refused n; table = t })
-  back_refused h t e =
-      let z : writing_refusal_of x (length m) (length was) ≡ 0 → ⊥ = λ p. h (w.number ∙ p) in
+module _ (x : Fields) (m was is : List ℕ) where
+  -- refused: writing's refusal, and the output as it was
+  pub back_refused : (n : Refusal) → Writes x m was is (refusal_number n) → (t : List Stream) → t ≡ table_by [] → ReadsBack x m was is (record { answer = Err n; table = t })
+  back_refused n w t e =
+      let z : writing_refusal_of x (length m) (length was) ≡ 0 → ⊥ = λ p. above_zero n (w.number ∙ p) in
       let y = ne_eqb (writing_refusal_of x (length m) (length was)) 0 z in
       record { output = w.output; number = w.number; values = rw y; sums = rw y; table = rw y e; parts = λ p. absurd (z p) }
 
   -- not refused: what stands in the output is read back
-  pub back_read : n ≡ 0 → length x.table ≡ 64 → (r : Reading) → Reads is r → ReadsBack x m was is r
+  pub back_read : Writes x m was is 0 → length x.table ≡ 64 → (r : Reading) → Reads is r → ReadsBack x m was is r
   unfolding written_of
-  back_read e l r reads =
-      let o = sym w.number ∙ e in
+  back_read w l r reads =
+      let o = sym w.number in
       let y = eq-eqb (writing_refusal_of x (length m) (length was)) 0 o in
       let f : is ≡ frame_in x m = w.output ∙ (rw y) in
       let t : Returned x m is = subst (Returned x m) (sym f) (written_read x m (writable x (length m) (length was) o) l) in

@@ -8,5 +8,5 @@ ghost use Rattle.relay.specs.Relaying.{Relays};
 pub extern "C" fn spindlewren_relay(frame: &[u8], out: &mut [u8]) -> u8
     ensures { Relays frame.now out.old out.new result }
 {
-    relay::relay(frame, out)
+    refusals::outcome(relay::relay(frame, out))
 }

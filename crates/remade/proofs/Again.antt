@@ -57,7 +57,7 @@ module _ (f : List ℕ) (z : refusal_of f ≡ 0) (w : ℕ) (fits : logical_lengt
   L = logical_length f
 
   room : 4 + L ≤ length f
-  room = logical_within_lem f (fl_of f) 0 (sym z) refl refl
+  room = logical_within_lem f (fl_of f) (sym z) refl
 
   came_at : (k : ℕ) → k < L → get_or (came_back w f) k 0 ≡ get_or f (4 + k) 0
   came_at k h =

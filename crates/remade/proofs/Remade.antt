@@ -3,33 +3,28 @@
 use mathlib.Core.Path.{◌≡◌, refl, sym, ap, ◌∙◌}
 use mathlib.Core.Bool.{Bool, true, false}
 use mathlib.Core.List.{List, [], ◌∷◌, ◌++◌}
-use Prim.Native.Nat.{ℕ, zero, suc, ◌+◌, ◌-◌, ◌*◌, ◌/◌, ◌%◌, ◌<◌, ◌≤◌}
+use Prim.Native.Nat.{ℕ, zero, suc, ◌+◌, ◌-◌, ◌*◌, ◌≤◌}
 use native.Mathlib.Nat.{le_trans}
-use native.Mathlib.Numerals.{add-one}
 use native.Mathlib.Omega.{arith}
 use borrow.Author.Tests.{ne_eqb, eqb-true, ltb-false}
 use lib.Dec.{eqb, ltb, lit≤}
-use lib.ListN.{length, get_or, set, take, drop, replicate, length-append, length-replicate}
-use lib.Seq.{length-take-le, take-suc}
+use lib.ListN.{length, take, drop, replicate, length-append, length-replicate}
+use lib.Seq.{length-take-le}
 use Rattle.octets.specs.Choice.{pick}
-use Rattle.octets.specs.Words.{word_at, split, join, bytes4}
+use Rattle.octets.specs.Words.{split, join, bytes4}
 use Rattle.octets.specs.Stores.{put}
-use Rattle.octets.proofs.Storing.{put_chain, put_room, put_length, put_more}
+use Rattle.octets.proofs.Storing.{put_chain, put_room, put_length}
 use Rattle.frame.specs.Frame.{sync_widths, status_by, fsync_by}
 use Rattle.frame.specs.Rules.{refusal_of}
 use Rattle.array.specs.CodingArray.{width_of, carried}
+use Rattle.line.specs.NetworkOut.{fl_in}
+use Rattle.homeward.proofs.Unplacing.{part_put}
+use borrow.Rule.Slice.PartMut.{put_mid}
 use Rattle.remade.specs.Remaking.{digit, fl_within, logical_within, start_bytes, frame_made, early_refusal, making_refusal, MakesFrame}
 
-pub lowest : (b : List ℕ) (n : ℕ) → n ≡ word_at b 0 → n % 2048 ≡ fl_within b
+pub within_fl : (b : List ℕ) (n : ℕ) → n ≡ fl_in b 0 → n ≡ fl_within b
 unfolding fl_within
-lowest b n e = let q : n % 2048 ≡ n / 1 % 2048 = omega arith in q ∙ ap (λ (k : ℕ). k / 1 % 2048) e
-
--- one byte more copied behind the start
-pub turn : (l b : List ℕ) (k logical : ℕ) → logical ≤ length b → 4 + logical ≤ length l → k < logical → set (put l 4 (take k b)) (4 + k) (get_or b k 0) ≡ put l 4 (take (k + 1) b)
-turn l b k logical h r m =
-    let e : length (take k b) ≡ k = length-take-le k b (omega arith) in
-    rw (add-one k, take-suc b k 0 (omega arith))
-    (ap (λ (n : ℕ). set (put l 4 (take k b)) (4 + n) (get_or b k 0)) (sym e) ∙ put_more l 4 (take k b) (get_or b k 0) (omega arith))
+within_fl b n e = e
 
 drop-padding : (k n v : ℕ) → k ≤ n → drop k (replicate n v) ≡ replicate (n - k) v
 drop-padding zero n v h = ap (λ (m : ℕ). replicate m v) (let q : n ≡ n - 0 = omega arith in q)
@@ -42,16 +37,17 @@ start_length pad a start z p =
     ap length p ∙ put_length pad 0 (split bytes4 start) (omega arith) ∙ size
 
 -- the start and the logical bytes put over padding
-pub made_all : (pad a out b : List ℕ) (start logical k : ℕ) → pad ≡ replicate 6144 0x55 → a ≡ put pad 0 (split bytes4 start) → out ≡ put a 4 (take k b) → logical ≤ length b → logical ≤ 6140 → k ≤ logical → logical ≤ k
-    → out ≡ split bytes4 start ++ take logical b ++ replicate (6140 - logical) 0x55
-made_all pad a out b start logical k z p q h l m n =
+pub made_all : (pad a part b : List ℕ) (start logical : ℕ) → pad ≡ replicate 6144 0x55 → a ≡ put pad 0 (split bytes4 start) → part ≡ take logical b → logical ≤ length b → logical ≤ 6140
+    → put_mid 4 (4 + logical - 4) a part ≡ split bytes4 start ++ take logical b ++ replicate (6140 - logical) 0x55
+made_all pad a part b start logical z p q h l =
     let us = split bytes4 start in
     let vs = take logical b in
-    let e : k ≡ logical = omega arith in
     let c : length vs ≡ logical = length-take-le logical b h in
     let size : length pad ≡ 6144 = ap length z ∙ length-replicate {A = ℕ} 6144 0x55 in
     let both : length (us ++ vs) ≡ 4 + logical = length-append us vs ∙ ap (λ (x : ℕ). 4 + x) c in
-    let o : out ≡ put pad 0 (us ++ vs) = put_chain pad a out 0 4 us vs p (q ∙ ap (λ (x : ℕ). put a 4 (take x b)) e) refl (omega arith) in
+    let room : 4 + logical ≤ length a = rw (start_length pad a start z p) (omega arith) in
+    let o : put_mid 4 (4 + logical - 4) a part ≡ put pad 0 (us ++ vs) =
+    put_chain pad a (put_mid 4 (4 + logical - 4) a part) 0 4 us vs p (part_put a part 4 logical room (ap length q ∙ c) ∙ ap (put a 4) q) refl (omega arith) in
     o
     ∙ put_room pad 0 (us ++ vs) (omega arith)
     ∙ ap (λ (r : List ℕ). (us ++ vs) ++ r)
@@ -85,9 +81,9 @@ module _ (fourteen fsync1 : Bool) (level : ℕ) (b out : List ℕ) where
     pub carries : logical ≤ carried w
     pub room : length out ≡ 6144
 
-  module _ (n fl most : ℕ) (d : fl ≡ fl_within b) (q : most ≡ carried w) (e : n ≡ early_refusal most (length b) (length out) level ((fl + 3) * 4)) (z : n ≡ 0) where
+  module _ (fl most : ℕ) (d : fl ≡ fl_within b) (q : most ≡ carried w) (e : 0 ≡ early_refusal most (length b) (length out) level ((fl + 3) * 4)) where
     early : early_refusal (carried w) (length b) (length out) level (logical_within b) ≡ 0
-    early = sym (e ∙ rw (d, q)) ∙ z
+    early = sym (e ∙ rw (d, q))
 
     pub within : Within ((fl + 3) * 4)
     unfolding early_refusal
@@ -113,8 +109,8 @@ module _ (fourteen fsync1 : Bool) (level : ℕ) (b out : List ℕ) where
     refused_frame k start f s m r c =
         record { number = r ∙ ap refusal_of (made_frame start f s m) ∙ rw early; bytes = rw (ne_eqb k 0 c) }
 
-    pub remade : (k start : ℕ) (f after : List ℕ) → start ≡ join sync_widths (status_by level ∷ fsync_by (digit fsync1) ∷ [])
-        → f ≡ split bytes4 start ++ take ((fl + 3) * 4) b ++ replicate (6140 - (fl + 3) * 4) 0x55 → k ≡ refusal_of f → k ≡ 0 → after ≡ f → MakesFrame fourteen fsync1 level b out after 0
+    pub remade : (start : ℕ) (f after : List ℕ) → start ≡ join sync_widths (status_by level ∷ fsync_by (digit fsync1) ∷ [])
+        → f ≡ split bytes4 start ++ take ((fl + 3) * 4) b ++ replicate (6140 - (fl + 3) * 4) 0x55 → 0 ≡ refusal_of f → after ≡ f → MakesFrame fourteen fsync1 level b out after 0
     unfolding making_refusal
-    remade k start f after s m r c a =
-        record { number = sym c ∙ r ∙ ap refusal_of (made_frame start f s m) ∙ rw early; bytes = a ∙ made_frame start f s m }
+    remade start f after s m r a =
+        record { number = r ∙ ap refusal_of (made_frame start f s m) ∙ rw early; bytes = a ∙ made_frame start f s m }

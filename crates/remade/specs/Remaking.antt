@@ -1,17 +1,17 @@
 -- T-03: the network frame made again from the information bytes that came back, with the caller's sync word and level.
 -- Assumes nothing.
-use Rattle.std.specs.Prelude.{Bool, List, [], ◌∷◌, ◌++◌, ◌≡◌, ℕ, ◌+◌, ◌-◌, ◌*◌, eqb, ltb, length, get_or, take, replicate}
+use Rattle.std.specs.Prelude.{Bool, List, [], ◌∷◌, ◌++◌, ◌≡◌, ℕ, ◌+◌, ◌-◌, ◌*◌, eqb, ltb, length, take, replicate}
 pub use Rattle.sum.specs.Sum.{digit}
 use Rattle.octets.specs.Choice.{pick}
-use Rattle.octets.specs.Words.{split, join, word_at, bytes4}
-use Rattle.frame.specs.Frame.{sync_widths, status_by, fsync_by, fc_widths, err_of, fsync_of}
+use Rattle.octets.specs.Words.{split, join, bytes4}
+use Rattle.frame.specs.Frame.{sync_widths, status_by, fsync_by, err_of, fsync_of}
 use Rattle.frame.specs.Rules.{refusal_of}
 use Rattle.array.specs.CodingArray.{width_of, carried, filled}
-use Rattle.line.specs.NetworkOut.{logical_length, logical_of}
+use Rattle.line.specs.NetworkOut.{fl_in, logical_length, logical_of}
 
 -- FL, the lowest field of FC, which is the first word of the information
 unfoldable pub fl_within : List ℕ → ℕ
-fl_within b = get_or (split fc_widths (word_at b 0)) 5 0
+fl_within b = fl_in b 0
 
 abbrev pub logical_within : List ℕ → ℕ
 logical_within b = (fl_within b + 3) * 4

@@ -149,9 +149,9 @@ pub closed : {r : Register} (s xs : List ℕ) → Same r s → length xs ≡ 256
 closed s xs h e = h.law xs (omega arith)
 
 -- what `ring::closed` adds
-pub all_owed : (w v next : List ℕ) → length w ≡ 256 → v ≡ xors (xors (xors w (take 176 (drop 80 w))) (take 64 (drop 192 w))) next → v ≡ xors (owed w) next
+pub all_owed : (w v last : List ℕ) → length w ≡ 256 → v ≡ xors (xors (xors w (take 176 (drop 80 w))) (take 64 (drop 192 w))) last → v ≡ xors (owed w) last
 unfolding owed tapped
-all_owed w v next e f =
+all_owed w v last e f =
     let a = length-drop 80 w in
     let b = length-drop 192 w in
     f ∙ rw (take_all 176 (drop 80 w) (omega arith), take_all 64 (drop 192 w) (omega arith), xors_assoc w (drop 80 w) (drop 192 w))

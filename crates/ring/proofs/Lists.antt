@@ -7,8 +7,7 @@ use native.Mathlib.Nat.{le_of_suc-le-suc, not-suc-le-zero}
 use native.Mathlib.Numerals.{add-one}
 use native.Mathlib.Omega.{arith}
 use lib.Bits.{bit_xor, xor_comm, xor_zero_r}
-use lib.ListN.{length, take, drop, get_or, set, replicate, length-drop}
-use lib.Seq.{get_or-drop}
+use lib.ListN.{length, take, drop, get_or, set, replicate}
 use Rattle.linear.proofs.Linear.{xors}
 use Rattle.linear.proofs.Xor.{xor_assoc}
 
@@ -68,9 +67,7 @@ added (x ∷ w) [] k h l = absurd (not-suc-le-zero l)
 added (x ∷ w) (y ∷ ys) zero h l = ap (λ (v : List ℕ). bit_xor x y ∷ v) (sym (xors_nil w))
 added (x ∷ w) (y ∷ ys) (suc k) h l = ap (λ (v : List ℕ). bit_xor x y ∷ v) (added w ys k (le_of_suc-le-suc h) (le_of_suc-le-suc l))
 
-pub add-more : (w₀ bytes : List ℕ) (i k : ℕ) (w : List ℕ) → w ≡ xors w₀ (take k (drop i bytes)) → k < length w₀ → i + k < length bytes
-    → set w k (bit_xor (get_or w k 0) (get_or bytes (i + k) 0)) ≡ xors w₀ (take (k + 1) (drop i bytes))
-add-more w₀ bytes i k w e h l =
-    let n = length-drop i bytes in
-    ap (λ (v : List ℕ). set v k (bit_xor (get_or v k 0) (get_or bytes (i + k) 0))) e
-    ∙ rw (add-one k, ← get_or-drop i bytes k 0) (added w₀ (drop i bytes) k h (omega arith))
+pub add-more : (w₀ bytes w : List ℕ) (k : ℕ) → w ≡ xors w₀ (take k bytes) → k < length w₀ → k < length bytes
+    → set w k (bit_xor (get_or w k 0) (get_or bytes k 0)) ≡ xors w₀ (take (k + 1) bytes)
+add-more w₀ bytes w k e h l =
+    ap (λ (v : List ℕ). set v k (bit_xor (get_or v k 0) (get_or bytes k 0))) e ∙ rw (add-one k) (added w₀ bytes k h l)

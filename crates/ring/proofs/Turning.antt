@@ -3,7 +3,7 @@
 use mathlib.Core.Path.{◌≡◌, sym, ap, ap₂, ◌∙◌}
 use mathlib.Core.List.{List, [], ◌∷◌, ◌++◌, append_assoc, append-nil}
 use mathlib.Core.Logic.{⊎_elim}
-use Prim.Native.Nat.{ℕ, ◌+◌, ◌-◌, ◌%◌, ◌^◌, ◌≤◌, ◌<◌}
+use Prim.Native.Nat.{ℕ, ◌+◌, ◌-◌, ◌%◌, ◌^◌, ◌<◌}
 use native.Mathlib.Nat.{eq-zero-or-pos}
 use native.Mathlib.Numerals.{add-one}
 use native.Mathlib.Omega.{arith}
@@ -67,27 +67,21 @@ taken w k x y b q e h p o f m s =
     rw (turned_more w k q (omega arith)) (one_more v b q (turned_length w k e h) m (f ∙ ap (λ (n : ℕ). bit_xor n b) (sym first)) s)
 
 -- the turns of `ring::run`
-pub turn_none : (w bytes : List ℕ) (i : ℕ) → length w ≡ 256 → Turn w bytes i w 0
+pub turn_none : (w bytes : List ℕ) → Turn w bytes w 0
 unfolding turned
-turn_none w bytes i e = record { long = e; stands = λ r s. rw (append-nil w) s }
+turn_none w bytes = record { stands = λ r s. rw (append-nil w) s }
 
-pub turn_more : (w₀ bytes : List ℕ) (i : ℕ) (w w₁ : List ℕ) (k : ℕ) → i + 256 ≤ length bytes → k < 256 → length w₁ ≡ 256
-    → ((r : Register) → Same r (owed (turned w k)) → Same (feed r (get_or bytes (i + k) 0)) (owed (turned w₁ (k + 1))))
-    → Turn w₀ bytes i w k → Turn w₀ bytes i w₁ (k + 1)
-turn_more w₀ bytes i w w₁ k h l e f t = record {
-  long = e;
+pub turn_more : (w₀ bytes w w₁ : List ℕ) (k : ℕ) → k < length bytes
+    → ((r : Register) → Same r (owed (turned w k)) → Same (feed r (get_or bytes k 0)) (owed (turned w₁ (k + 1))))
+    → Turn w₀ bytes w k → Turn w₀ bytes w₁ (k + 1)
+turn_more w₀ bytes w w₁ k h f t = record {
   stands = λ r s.
-      let b = get_or bytes (i + k) 0 in
-      let n = length-drop i bytes in
-      let u : take (k + 1) (drop i bytes) ≡ take k (drop i bytes) ++ (b ∷ []) =
-      ap (λ (j : ℕ). take j (drop i bytes)) (add-one k) ∙ take-suc (drop i bytes) k 0 (omega arith)
-      ∙ ap (λ (j : ℕ). take k (drop i bytes) ++ (j ∷ [])) (get_or-drop i bytes k 0) in
-      rw (u, after_append r (take k (drop i bytes)) (b ∷ [])) (f (after r (take k (drop i bytes))) (t.stands r s));
+      let b = get_or bytes k 0 in
+      rw (add-one k, take-suc bytes k 0 h, ← add-one k, after_append r (take k bytes) (b ∷ [])) (f (after r (take k bytes)) (t.stands r s));
 }
 
-pub turn_all : (w₀ bytes : List ℕ) (i : ℕ) (w : List ℕ) → Turn w₀ bytes i w 256 → (r : Register) → Same r (owed w₀) → Same (after r (take 256 (drop i bytes))) (owed w)
+pub turn_all : (w₀ bytes w : List ℕ) → length bytes ≡ 256 → length w ≡ 256 → Turn w₀ bytes w 256 → (r : Register) → Same r (owed w₀) → Same (after r bytes) (owed w)
 unfolding turned
-turn_all w₀ bytes i w t r s =
-    let e = t.long in
+turn_all w₀ bytes w n e t r s =
     let d : drop 256 w ≡ [] = drop_of_length-le w {i = 256} (omega arith) in
-    rw (take_all 256 w (omega arith)) at (rw d at (t.stands r s))
+    rw (take_all 256 w (omega arith)) at (rw (take_all 256 bytes (omega arith)) at (rw d at (t.stands r s)))

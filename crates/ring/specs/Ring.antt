@@ -21,18 +21,14 @@ turned w k = drop k w ++ take k w
 pub record Same (r : Register) (s : List ℕ) : Type 0 where
   pub law : (xs : List ℕ) → 256 ≤ length xs → after r xs ≡ after blank (xors s xs)
 
--- after k bytes from the place i on the ring w, turned on by k, stands for the register, if the ring u stood for it before them
-pub record Turn (u bytes : List ℕ) (i : ℕ) (w : List ℕ) (k : ℕ) : Type 0 where
-  pub long : length w ≡ 256
-  pub stands : (r : Register) → Same r (owed u) → Same (after r (take k (drop i bytes))) (owed (turned w k))
+-- after the first k bytes of a round the ring w, turned on by k, stands for the register, if the ring u stood for it before them
+pub record Turn (u bytes w : List ℕ) (k : ℕ) : Type 0 where
+  pub stands : (r : Register) → Same r (owed u) → Same (after r (take k bytes)) (owed (turned w k))
 
--- a run of places from k up to e, and where the two other bytes of the first stand, with no end of the ring between
-pub record Run (w bytes : List ℕ) (i k e x y : ℕ) : Type 0 where
-  pub long : length w ≡ 256
-  pub inside : i + 256 ≤ length bytes
-  pub first : k ≤ e
-  pub last : e ≤ 256
+-- a run of n places from k on, and where the two other bytes of the first stand, with no end of the ring between
+pub record Run (k n x y : ℕ) : Type 0 where
+  pub last : k + n ≤ 256
   pub tap : x ≡ (k + 80) % 256
-  pub tap_end : x + e ≤ 256 + k
+  pub tap_end : x + n ≤ 256
   pub other : y ≡ (k + 192) % 256
-  pub other_end : y + e ≤ 256 + k
+  pub other_end : y + n ≤ 256

@@ -72,7 +72,7 @@ pub sent_gathered : (type : ℕ) (body l out : List ℕ) → SendsMessage type b
     → (xs : List Handed) → Calls s buffer (frames_from 0 out) xs → xs ≡ told (stringing seen) (message type body ∷ [])
 unfolding bytes_of
 sent_gathered type body l out t small b seen w e s buffer h xs c =
-    let k : Carries (length body) (length l) = carried (length body) (length l) 0 t.number refl in
+    let k : Carries (length body) (length l) = carried (length body) (length l) t.number in
     let n = gr_nb_for (length body) in
     let p : items seen ++ xs ≡ items seen ++ told (stringing seen) (message type body ∷ []) =
     sym (calls_follow seen s buffer (frames_from 0 out) xs h c)

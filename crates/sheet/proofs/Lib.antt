@@ -1,3 +1,4 @@
+pub mod SheetFixed
 pub mod AddingUp
 pub mod Gaps
 pub mod SheetRoom

@@ -19,7 +19,6 @@ use Rattle.sheet.proofs.Summing.{totals_fit, run_fits}
 use Rattle.sheet.proofs.Totals.{total_le}
 
 room_by : (m : ℕ) (t : List ℕ) → ((k : ℕ) → get_or t k 0 ≤ m) → all_at_most m t ≡ true
-unfolding all_at_most
 room_by m [] h = refl
 room_by m (x ∷ xs) h = rw (le-leb x m (h 0)) (room_by m xs (λ (k : ℕ). h (suc k)))
 

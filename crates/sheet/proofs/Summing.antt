@@ -2,8 +2,8 @@
 -- Assumes nothing.
 use mathlib.Core.Bool.{Bool, true, false, not}
 use mathlib.Core.List.{List, [], ◌∷◌}
-use mathlib.Core.Path.{◌≡◌, sym, ◌∙◌}
-use Prim.Native.Nat.{ℕ, ◌+◌, ◌-◌, ◌*◌, ◌%◌, ◌≤◌, ◌<◌}
+use mathlib.Core.Path.{◌≡◌, refl, sym, ap, ◌∙◌}
+use Prim.Native.Nat.{ℕ, ◌+◌, ◌-◌, ◌*◌, ◌%◌, ◌/◌, ◌≤◌, ◌<◌}
 use native.Mathlib.Omega.{arith}
 use borrow.Author.Tests.{eq-eqb, ne_eqb, lt-ltb, le-ltb, leb-true, ltb-true, not-false}
 use lib.Dec.{ltb, leb}
@@ -12,12 +12,12 @@ use Rattle.octets.proofs.Deciding.{both}
 use Rattle.frame.specs.Rules.{Rule, ◌when◌}
 use Rattle.frame.proofs.FirstRule.{first_found, first_zero, none_hold, none_first}
 use Rattle.nightlog.specs.declared.Entry.{Entry}
-use Rattle.nightlog.specs.Log.{entry_from, entries_to, bad_from, records_in, log_rules_of, log_refusal_of, Judges}
+use Rattle.nightlog.specs.Log.{entry_from, entries_to, bad_from, records_in, records_of, log_rules_of, log_refusal_of, Judges}
+use Rattle.nightlog.proofs.Cut.{counted}
 use Rattle.nightlog.proofs.Returned.{entries_more, entries_length}
 use Rattle.sheet.specs.declared.Run.{Run}
 use Rattle.sheet.specs.declared.Sheet.{Sheet}
 use Rattle.sheet.specs.Sheets.{totals_added, billion, run_added, added, all_at_most, run_goes_on, goes_on, adding_rules_of, adding_refusal_of, Adds}
-use Rattle.sheet.specs.SheetClauses.{Ready, Stopped}
 use Rattle.sheet.proofs.Gaps.{run_none, run_joined, run_room}
 use Rattle.sheet.proofs.Totals.{totals_none, totals_joined, total_le, room_at}
 
@@ -40,14 +40,20 @@ module _ (s : Sheet) (n : ℕ) (goes : goes_on s n ≡ true) where
   pub run_fits : (s.run.high ≤ 18446744073709551615 - n) × (s.run.low < billion)
   run_fits = run_parts s.run (18446744073709551615 - n) halves.1
 
-module _ (s : Sheet) (n : ℕ) where
-  pub goes_not : all_at_most (18446744073709551615 - n) s.totals ≡ false → false ≡ goes_on s n
-  unfolding goes_on
-  goes_not h = rw h
+-- a log of whole records, n of them, and a sheet that can go on with them
+pub record Ready (s : Sheet) (l : List ℕ) (n : ℕ) : Type 0 where
+  pub even : length l % 16 ≡ 0
+  pub records : n ≡ length l / 16
+  pub goes : goes_on s n ≡ true
+  pub sixteen : length s.totals ≡ 16
 
-  pub goes_by : (b : Bool) → all_at_most (18446744073709551615 - n) s.totals ≡ true → b ≡ run_goes_on s.run (18446744073709551615 - n) → b ≡ goes_on s n
-  unfolding goes_on
-  goes_by b h e = rw h e
+-- as the code finds it, from the records that it cut the log into
+pub readied : (s : Sheet) (l : List ℕ) (rs : List (List ℕ)) (b : Bool) → (rs ≡ records_of l) × (length l % 16 ≡ 0) → (b ≡ goes_on s (length rs)) × (length s.totals ≡ 16) → b ≡ true → Ready s l (records_in l)
+readied s l rs b (cut, even) (e, sixteen) t =
+    record { even = even; records = refl; goes = ap (goes_on s) (sym (counted l rs cut)) ∙ sym e ∙ t; sixteen = sixteen }
+
+pub stopped : (s : Sheet) (l : List ℕ) (rs : List (List ℕ)) (b : Bool) → rs ≡ records_of l → b ≡ goes_on s (length rs) → b ≡ false → goes_on s (records_in l) ≡ false
+stopped s l rs b cut e f = ap (goes_on s) (sym (counted l rs cut)) ∙ sym e ∙ f
 
 -- ---- a turn of the pass
 module _ (s : Sheet) (l : List ℕ) (n : ℕ) (ready : Ready s l n) where
@@ -108,11 +114,11 @@ module _ (s : Sheet) (l : List ℕ) where
         let e : adding_refusal_of s l ≡ log_refusal_of l = first_found (log_rules_of l) (stop s l) (λ z. h (j.number ∙ z)) in
         record { number = j.number ∙ sym e; bad = rw e j.bad; sheet = rw (e, ← j.number, ne_eqb n 0 h) }
 
-    pub adds_stopped : n ≡ 0 → Stopped s l → Adds s l 12 0 s
+    pub adds_stopped : n ≡ 0 → goes_on s (records_in l) ≡ false → Adds s l 12 0 s
     unfolding adding_refusal_of log_refusal_of
     adds_stopped z st =
         let none = none_hold (log_rules_of l) (tt, (tt, tt)) (sym j.number ∙ z) in
-        let e : adding_refusal_of s l ≡ 12 = first_zero (log_rules_of l) (stop s l) none ∙ (rw st.stops) in
+        let e : adding_refusal_of s l ≡ 12 = first_zero (log_rules_of l) (stop s l) none ∙ (rw st) in
         record { number = sym e; bad = rw e; sheet = rw e }
 
   -- a log that was added was accepted, and the sheet could go on

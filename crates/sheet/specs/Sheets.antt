@@ -1,13 +1,19 @@
 -- The sheet of a log, T-13: each total is that of the list of entries, and further logs are added to it.
 -- Assumes nothing.
-use Rattle.std.specs.Prelude.{Bool, true, not, ◌&&◌, List, [], ◌∷◌, ◌++◌, ◌≡◌, ℕ, zero, suc, ◌+◌, ◌-◌, ◌*◌, ◌%◌, ◌/◌, eqb, ltb, leb, get_or, replicate}
+use Rattle.std.specs.Prelude.{Bool, not, ◌&&◌, List, [], ◌∷◌, ◌++◌, ◌≡◌, ℕ, zero, suc, ◌+◌, ◌-◌, ◌*◌, ◌%◌, ◌/◌, eqb, ltb, leb, get_or, replicate, Result, Ok, Err}
+use Rattle.std.specs.List.{list_all}
 use Rattle.octets.specs.Choice.{pick}
 use Rattle.sum.specs.Sum.{digit}
 use Rattle.frame.specs.Rules.{Rule, ◌when◌, first}
+use Rattle.refusals.specs.declared.Refusal.{Refusal}
+use Rattle.refusals.specs.declared.Refusal.TheVariants.{TooWide}
+use Rattle.refusals.specs.Refusals.{refusal_number}
 use Rattle.nightlog.specs.declared.Entry.{Entry}
-use Rattle.nightlog.specs.Log.{frame_kind, lost_kind, idle_kind, records_in, entries_of, first_bad, log_rules_of}
+use Rattle.nightlog.specs.Log.{refusal_for as log_refusal_for, bad_in, frame_kind, lost_kind, idle_kind, records_in, entries_of, first_bad, log_rules_of}
 use Rattle.sheet.specs.declared.Run.{Run}
 use Rattle.sheet.specs.declared.Sheet.{Sheet}
+pub use Rattle.sheet.specs.declared.NotAdded.{NotAdded}
+use Rattle.sheet.specs.declared.NotAdded.TheVariants.{Log, CannotGoOn}
 
 -- how many entries pass the test
 unfoldable pub count : (Entry → Bool) → List Entry → ℕ
@@ -112,9 +118,8 @@ seam (a ∷ bs) [] = 0
 seam (a ∷ bs) (c ∷ ds) = gap (last_after a bs) c
 
 -- ---- whether n entries more can be added to a sheet: none of its totals can overflow, and the rest is as a sheet has it
-unfoldable pub all_at_most : ℕ → List ℕ → Bool
-all_at_most m [] = true
-all_at_most m (x ∷ xs) = leb x m && all_at_most m xs
+abbrev pub all_at_most : ℕ → List ℕ → Bool
+all_at_most m xs = list_all (λ x. leb x m) xs
 
 unfoldable pub run_goes_on : Run → ℕ → Bool
 run_goes_on r most =
@@ -129,6 +134,28 @@ adding_rules_of s l = log_rules_of l ++ ((12 when not (goes_on s (records_in l))
 
 unfoldable pub adding_refusal_of : Sheet → List ℕ → ℕ
 adding_refusal_of s l = first (adding_rules_of s l)
+
+-- ---- what a log that is not added is told with: its refusal, and the bad record for 29
+abbrev pub refusal_for : NotAdded → Refusal
+refusal_for (Log why) = log_refusal_for why
+refusal_for CannotGoOn = TooWide
+
+abbrev pub bad_of : NotAdded → ℕ
+bad_of (Log why) = bad_in why
+bad_of CannotGoOn = 0
+
+-- an outcome's number, its bad record, and the sheet behind it: as it was, where nothing is added
+abbrev pub added_number : Result Sheet NotAdded → ℕ
+added_number (Ok t) = 0
+added_number (Err why) = refusal_number (refusal_for why)
+
+abbrev pub added_bad : Result Sheet NotAdded → ℕ
+added_bad (Ok t) = 0
+added_bad (Err why) = bad_of why
+
+abbrev pub sheet_after : Sheet → Result Sheet NotAdded → Sheet
+sheet_after s (Ok t) = t
+sheet_after s (Err why) = s
 
 -- the number n, the bad record b for 29, and the sheet t, as it was where it is refused
 pub record Adds (s : Sheet) (l : List ℕ) (n b : ℕ) (t : Sheet) : Type 0 where

@@ -1,115 +1,103 @@
--- What the functions on a whole group hand back, from the tests that led there.
+-- What the methods on a whole group hand back, from the tests that led there.
 -- Assumes nothing.
-use mathlib.Core.Bool.{Bool, true, false}
-use mathlib.Core.List.{List, ◌++◌}
-use mathlib.Core.Path.{◌≡◌, sym, ap, ◌∙◌}
-use Prim.Native.Nat.{ℕ, ◌+◌, ◌-◌, ◌*◌, ◌/◌, ◌%◌, ◌≤◌, ◌<◌}
+use mathlib.Core.Bool.{true, false}
+use mathlib.Core.List.{List}
+use mathlib.Core.Logic.{◌⊎◌, inl, inr}
+use mathlib.Core.Path.{◌≡◌, refl, sym, ◌∙◌}
+use Prim.Native.Nat.{ℕ, ◌+◌, ◌-◌, ◌*◌, ◌%◌, ◌≤◌, ◌<◌}
 use native.Mathlib.Omega.{arith}
-use lib.ListN.{take, drop}
+use lib.ListN.{length, take, drop}
+use borrow.Rule.Slice.PartMut.{mid_of}
 use borrow.Author.Tests.{eq-eqb, ne_eqb, lt-ltb, le-ltb}
-use Rattle.sum.specs.Sum.{sent}
+use Rattle.std.proofs.lemmas.Grind.{common_steps}
 use Rattle.octets.specs.Stores.{put}
+use Rattle.refusals.specs.declared.Refusal.TheVariants.{OutOfTurn, ClosingSum}
 use Rattle.signalling.specs.declared.Kind.{Kind}
 use Rattle.signalling.specs.declared.Kind.TheVariants.{Start, Continuation, End, Other}
 use Rattle.signalling.specs.declared.Group.{Group}
 use Rattle.signalling.specs.declared.Opened.{Opened}
+use Rattle.signalling.specs.declared.State.{State}
 use Rattle.signalling.specs.declared.Item.TheVariants.{Nothing, Message, Drop}
 use Rattle.signalling.specs.declared.Taken.{Taken}
-use Rattle.signalling.specs.declared.Step.{Step}
-use Rattle.signalling.specs.Messages.{kind_in}
-use Rattle.signalling.specs.OnNumbers.{fed, no_message, no_group, started_by, not_due, place_of, continued_by, ended_by, taken_by, buffer_by, out_item, afresh_by, join_by, whole_by, stepped, step_by, step_buffer}
+use Rattle.signalling.specs.Messages.{SB, kind_in, closing_sum}
+use Rattle.signalling.specs.OnNumbers.{fed, no_message, no_group, started_by, not_due, continued_by, ended_by, taken_by, buffer_by, out_item, afresh_by, join_by, whole_group, whole_by, step_by, step_buffer}
 use Rattle.signalling.specs.GroupClauses.{Taking, Stepping}
 
-abbrev four : ℕ → ℕ → ℕ → ℕ → List ℕ
-four p0 p1 p2 p3 = sent p0 ++ sent p1 ++ sent p2 ++ sent p3
+-- ---- a part of a group's eight bytes
+pub last_four : (g : List ℕ) → length g ≡ 8 → mid_of 4 4 g ≡ drop 4 g
+last_four g e = grind (arith, common_steps)
 
-module _ (p0 p1 p2 p3 : ℕ) where
-  pub starts_open : (on : Bool) (crc : ℕ) → crc ≡ fed 65535 (four p0 p1 p2 p3) → on ≡ true
-      → ◌≡◌ {A = Taken} (record { item = Drop 25; message = record { on = true; kind = p1 / 256; grnb = p1 % 256; count = 0; crc = crc } }) (started_by on (four p0 p1 p2 p3))
-  unfolding started_by
-  starts_open on crc e h = rw (h, e)
+pub last_six : (g : List ℕ) → length g ≡ 8 → mid_of 2 6 g ≡ drop 2 g
+last_six g e = grind (arith, common_steps)
 
-  pub starts : (on : Bool) (crc : ℕ) → crc ≡ fed 65535 (four p0 p1 p2 p3) → on ≡ false
-      → ◌≡◌ {A = Taken} (record { item = Nothing; message = record { on = true; kind = p1 / 256; grnb = p1 % 256; count = 0; crc = crc } }) (started_by on (four p0 p1 p2 p3))
-  unfolding started_by
-  starts on crc e h = rw (h, e)
+pub mid_four : (g : List ℕ) → mid_of 2 4 g ≡ take 4 (drop 2 g)
+mid_four g = grind (arith, common_steps)
 
-  module _ (m : Opened) (on : m.on ≡ true) where
-    pub continues : (crc : ℕ) → crc ≡ fed m.crc (four p0 p1 p2 p3) → m.count < m.grnb
-        → ◌≡◌ {A = Taken} (record { item = Nothing; message = record { on = true; kind = m.kind; grnb = m.grnb; count = m.count + 1; crc = crc } }) (continued_by m (four p0 p1 p2 p3))
-    unfolding continued_by
-    continues crc e h = rw (on, lt-ltb m.count m.grnb h, e)
+pub passes_over : {m : Opened} {g l : List ℕ} (k : Kind) → k ≡ Other → Taking k m g l (record { item = Nothing; message = m }) l
+unfolding taken_by buffer_by
+passes_over k e = rw e (record { taken = refl; buffer = refl })
 
-    same : p3 / 256 * 256 + p3 % 256 ≡ p3
-    same = omega arith
+module _ {m : Opened} {g l after : List ℕ} where
+  pub starts_open : {crc : ℕ} → m.on ≡ true → crc ≡ fed 65535 g → after ≡ put l 0 (drop 4 g)
+      → Taking Start m g l (record { item = Drop OutOfTurn; message = record { on = true; kind = SB g 2; grnb = SB g 3; count = 0; crc = crc } }) after
+  unfolding started_by taken_by buffer_by
+  starts_open h e q = record { taken = rw (h, e); buffer = q }
 
-    pub ends : (x : ℕ) (n : Opened) → x ≡ fed m.crc (sent p0 ++ sent p1 ++ sent p2) → n ≡ no_message → m.count ≡ m.grnb → 65535 - x ≡ p3
-        → ◌≡◌ {A = Taken} (record { item = Message m.kind (8 + 6 * m.count); message = n }) (ended_by m (four p0 p1 p2 p3))
-    unfolding ended_by
-    ends x n e z h t =
-        rw (on, eq-eqb m.count m.grnb h, eq-eqb (65535 - fed m.crc (sent p0 ++ sent p1 ++ sent p2)) (p3 / 256 * 256 + p3 % 256) (ap (λ (k : ℕ). 65535 - k) (sym e) ∙ t ∙ sym same), z)
+  pub starts : {crc : ℕ} → m.on ≡ false → crc ≡ fed 65535 g → after ≡ put l 0 (drop 4 g)
+      → Taking Start m g l (record { item = Nothing; message = record { on = true; kind = SB g 2; grnb = SB g 3; count = 0; crc = crc } }) after
+  unfolding started_by taken_by buffer_by
+  starts h e q = record { taken = rw (h, e); buffer = q }
 
-    pub ends_wrong : (x : ℕ) (n : Opened) → x ≡ fed m.crc (sent p0 ++ sent p1 ++ sent p2) → n ≡ no_message → m.count ≡ m.grnb → (65535 - x ≡ p3 → ⊥)
-        → ◌≡◌ {A = Taken} (record { item = Drop 26; message = n }) (ended_by m (four p0 p1 p2 p3))
-    unfolding ended_by
-    ends_wrong x n e z h t =
-        rw (on, eq-eqb m.count m.grnb h, ne_eqb (65535 - fed m.crc (sent p0 ++ sent p1 ++ sent p2)) (p3 / 256 * 256 + p3 % 256) (λ q. t (ap (λ (k : ℕ). 65535 - k) e ∙ q ∙ same)), z)
+  pub continues : {crc place : ℕ} → m.on ≡ true → m.count < m.grnb → place ≡ m.count → crc ≡ fed m.crc g → after ≡ put l (4 + 6 * place) (drop 2 g)
+      → Taking Continuation m g l (record { item = Nothing; message = record { on = m.on; kind = m.kind; grnb = m.grnb; count = m.count + 1; crc = crc } }) after
+  unfolding continued_by taken_by buffer_by
+  continues h k p e q = record { taken = rw (h, lt-ltb m.count m.grnb k, e); buffer = q ∙ rw (h, lt-ltb m.count m.grnb k, p) }
 
-module _ {m : Opened} {g l after : List ℕ} {r : Taken} where
-  pub take-started : r ≡ started_by m.on g → after ≡ put l 0 (drop 4 g) → Taking Start m g l r after
+  pub not_continued : {r : Taken} → ((m.on ≡ true) × (m.grnb ≤ m.count)) ⊎ (m.on ≡ false) → r ≡ not_due → after ≡ l → Taking Continuation m g l r after
+  unfolding continued_by taken_by buffer_by
+  not_continued (inl h) p q = record { taken = p ∙ rw (h.0, le-ltb m.count m.grnb h.1); buffer = q ∙ rw (h.0, le-ltb m.count m.grnb h.1) }
+  not_continued (inr h) p q = record { taken = p ∙ rw h; buffer = q ∙ rw h }
+
+  pub takes_end : {r : Taken} {place : ℕ} → m.on ≡ true → m.count ≡ m.grnb → place ≡ m.count → r ≡ ended_by m g → after ≡ put l (4 + 6 * place) (take 4 (drop 2 g))
+      → Taking End m g l r after
   unfolding taken_by buffer_by
-  take-started p q = record { taken = p; buffer = q }
+  takes_end h k p e q = record { taken = e; buffer = q ∙ rw (h, eq-eqb m.count m.grnb k, p) }
 
-  pub take_continued : m.on ≡ true → m.count < m.grnb → r ≡ continued_by m g → after ≡ put l (place_of m) (drop 2 g) → Taking Continuation m g l r after
-  unfolding taken_by buffer_by
-  take_continued on h p q = record { taken = p; buffer = q ∙ rw (on, lt-ltb m.count m.grnb h) }
+  pub not_ended : {r : Taken} → ((m.on ≡ true) × (m.count ≡ m.grnb → ⊥)) ⊎ (m.on ≡ false) → r ≡ not_due → after ≡ l → Taking End m g l r after
+  unfolding ended_by taken_by buffer_by
+  not_ended (inl h) p q = record { taken = p ∙ rw (h.0, ne_eqb m.count m.grnb h.1); buffer = q ∙ rw (h.0, ne_eqb m.count m.grnb h.1) }
+  not_ended (inr h) p q = record { taken = p ∙ rw h; buffer = q ∙ rw h }
 
-  pub take_early : m.on ≡ true → m.grnb ≤ m.count → r ≡ not_due → after ≡ l → Taking Continuation m g l r after
-  unfolding taken_by buffer_by continued_by
-  take_early on h p q = record { taken = p ∙ rw (on, le-ltb m.count m.grnb h); buffer = q ∙ rw (on, le-ltb m.count m.grnb h) }
+-- ---- an end that is due
+module _ (m : Opened) (g : List ℕ) (h : m.on ≡ true) (k : m.count ≡ m.grnb) {sum sent : ℕ} {n : Opened} (e : sum ≡ fed m.crc (take 6 g)) (s : sent ≡ closing_sum g) (z : n ≡ no_message) where
+  pub ends_wrong : (65535 - sum ≡ sent → ⊥) → ◌≡◌ {A = Taken} (record { item = Drop ClosingSum; message = n }) (ended_by m g)
+  unfolding ended_by
+  ends_wrong t = rw (h, eq-eqb m.count m.grnb k, ← e, ← s, ne_eqb (65535 - sum) sent t, z)
 
-  pub take_unopened : m.on ≡ false → r ≡ not_due → after ≡ l → Taking Continuation m g l r after
-  unfolding taken_by buffer_by continued_by
-  take_unopened on p q = record { taken = p ∙ rw on; buffer = q ∙ rw on }
+  pub ends : {count : ℕ} → 65535 - sum ≡ sent → count ≡ m.count → ◌≡◌ {A = Taken} (record { item = Message m.kind (8 + 6 * count); message = n }) (ended_by m g)
+  unfolding ended_by
+  ends t p = rw (h, eq-eqb m.count m.grnb k, ← e, ← s, eq-eqb (65535 - sum) sent t, z, p)
 
-  pub take_ended : m.on ≡ true → m.count ≡ m.grnb → r ≡ ended_by m g → after ≡ put l (place_of m) (take 4 (drop 2 g)) → Taking End m g l r after
-  unfolding taken_by buffer_by
-  take_ended on h p q = record { taken = p; buffer = q ∙ rw (on, eq-eqb m.count m.grnb h) }
-
-  pub end_early : m.on ≡ true → (m.count ≡ m.grnb → ⊥) → r ≡ not_due → after ≡ l → Taking End m g l r after
-  unfolding taken_by buffer_by ended_by
-  end_early on h p q = record { taken = p ∙ rw (on, ne_eqb m.count m.grnb h); buffer = q ∙ rw (on, ne_eqb m.count m.grnb h) }
-
-  pub end_unopened : m.on ≡ false → r ≡ not_due → after ≡ l → Taking End m g l r after
-  unfolding taken_by buffer_by ended_by
-  end_unopened on p q = record { taken = p ∙ rw on; buffer = q ∙ rw on }
-
-  -- by the group's kind
-  pub as_kind : (k j : Kind) → j ≡ k → Taking k m g l r after → Taking j m g l r after
-  as_kind k j e t = rw e t
-
-  pub take-other : r ≡ record { item = Nothing; message = m } → after ≡ l → Taking Other m g l r after
-  unfolding taken_by buffer_by
-  take-other p q = record { taken = p; buffer = q }
-
-module _ (g : Group) (m : Opened) (fp mnsc : ℕ) (l : List ℕ) where
-  pub steps_out : (r : Step) → (fp % 4 ≡ g.due → ⊥) → r ≡ stepped (out_item g.waiting) (afresh_by (fp % 4) mnsc) m → Stepping g m fp mnsc l r l
+-- ---- a frame
+module _ (s : State) (fp mnsc : ℕ) (l : List ℕ) where
+  pub steps_out : {item : _} {group : Group} → (fp % 4 ≡ s.group.due → ⊥) → item ≡ out_item s.group.waiting → group ≡ afresh_by (fp % 4) mnsc
+      → Stepping s fp mnsc l (record { item = item; state = record { group = group; message = s.message } }) l
   unfolding step_by step_buffer
-  steps_out r h p = let t = ne_eqb (fp % 4) g.due h in record { step = p ∙ rw t; buffer = rw t }
+  steps_out h p q = let t = ne_eqb (fp % 4) s.group.due h in record { step = rw (t, p, q); buffer = rw t }
 
-  module _ (h : fp % 4 ≡ g.due) where
-    pub steps_join : (next : Group) → (g.due ≡ 3 → ⊥) → next ≡ join_by g mnsc
-        → Stepping g m fp mnsc l (record { item = Nothing; state = record { group = next; message = m } }) l
+  module _ (h : fp % 4 ≡ s.group.due) where
+    pub steps_join : {next : Group} → (fp % 4 ≡ 3 → ⊥) → next ≡ join_by s.group mnsc
+        → Stepping s fp mnsc l (record { item = Nothing; state = record { group = next; message = s.message } }) l
     unfolding step_by step_buffer
-    steps_join next n q =
-        let t = eq-eqb (fp % 4) g.due h in
-        let u = ne_eqb g.due 3 n in
+    steps_join n q =
+        let t = eq-eqb (fp % 4) s.group.due h in
+        let u = ne_eqb s.group.due 3 (λ e. n (h ∙ e)) in
         record { step = rw (t, u, q); buffer = rw (t, u) }
 
-    pub steps_whole : (r : Taken) (next : Group) (after : List ℕ) → g.due ≡ 3 → Taking (kind_in (g.p0 / 256)) m (four g.p0 g.p1 g.p2 mnsc) l r after → next ≡ no_group false
-        → Stepping g m fp mnsc l (record { item = r.item; state = record { group = next; message = r.message } }) after
+    pub steps_whole : {r : Taken} {next : Group} {after g : List ℕ} → fp % 4 ≡ 3 → g ≡ whole_group s.group mnsc → Taking (kind_in (SB g 0)) s.message g l r after → next ≡ no_group false
+        → Stepping s fp mnsc l (record { item = r.item; state = record { group = next; message = r.message } }) after
     unfolding step_by step_buffer whole_by
-    steps_whole r next after n k q =
-        let t = eq-eqb (fp % 4) g.due h in
-        let u = eq-eqb g.due 3 n in
-        record { step = rw (t, u, q, k.taken); buffer = k.buffer ∙ rw (t, u) }
+    steps_whole n e k q =
+        let t = eq-eqb (fp % 4) s.group.due h in
+        let u = eq-eqb s.group.due 3 (sym h ∙ n) in
+        record { step = rw (t, u, q, k.taken, e); buffer = k.buffer ∙ rw (t, u, e) }

@@ -11,6 +11,7 @@ use lib.Dec.{eqb, lit<, lit≤}
 use lib.ListN.{length}
 use borrow.Author.Tests.{lt-ltb, le-ltb}
 use Rattle.sum.specs.Sum.{sent}
+use Rattle.refusals.specs.declared.Refusal.TheVariants.{Length}
 use Rattle.signalling.specs.declared.Opened.{Opened}
 use Rattle.signalling.specs.declared.State.{State}
 use Rattle.signalling.specs.declared.Item.TheVariants.{Refused}
@@ -110,12 +111,12 @@ module _ (seen : List Frame) (f : Frame) where
 
 -- ---- the step
 module _ (s : State) (fp mnsc : ℕ) (l : List ℕ) where
-  pub refuses : length l < 1538 → Steps s fp mnsc l (record { item = Refused 1; state = s }) l
+  pub refuses : length l < 1538 → Steps s fp mnsc l (record { item = Refused Length; state = s }) l
   refuses h =
       let t = lt-ltb (length l) 1538 h in
       record { item = rw t; state = rw t; buffer = rw t; follows = λ seen k. absurd (omega (arith, k.room)) }
 
-  pub steps_on : (r : Step) (after : List ℕ) → 1538 ≤ length l → Stepping s.group s.message fp mnsc l r after → Steps s fp mnsc l r after
+  pub steps_on : (r : Step) (after : List ℕ) → 1538 ≤ length l → Stepping s fp mnsc l r after → Steps s fp mnsc l r after
   steps_on r after h k =
       let t = le-ltb (length l) 1538 h in
       record {

@@ -5,6 +5,7 @@ use mathlib.Core.Path.{◌≡◌, refl, sym, ap, ◌∙◌}
 use Prim.Native.Nat.{ℕ, ◌≤◌}
 use lib.ListN.{length, get_or}
 use borrow.Author.Tests.{le-ltb}
+use Rattle.refusals.proofs.Numbers.{by_number}
 use Rattle.signalling.specs.declared.State.{State}
 use Rattle.signalling.specs.declared.Item.{Item}
 use Rattle.signalling.specs.declared.Item.TheVariants.{Nothing, Message, Drop, Refused}
@@ -15,8 +16,8 @@ use Rattle.signalling.specs.Following.{Steps}
 pub item_by_lem : (x : Item) → item_by (item_kind x) (item_number x) (item_length x) ≡ x
 item_by_lem Nothing = refl
 item_by_lem (Message type n) = refl
-item_by_lem (Drop n) = refl
-item_by_lem (Refused n) = refl
+item_by_lem (Drop r) = ap Drop (by_number r)
+item_by_lem (Refused r) = ap Refused (by_number r)
 
 pub item_fixed : (x y : Item) → item_values x ≡ item_values y → x ≡ y
 item_fixed x y e = sym (item_by_lem x) ∙ ap (λ (vs : List ℕ). item_by (get_or vs 0 0) (get_or vs 1 0) (get_or vs 2 0)) e ∙ item_by_lem y

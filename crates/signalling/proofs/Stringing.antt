@@ -15,6 +15,7 @@ use Rattle.sum.proofs.SumLaws.{after_append}
 use Rattle.octets.specs.Choice.{pick}
 use Rattle.octets.specs.Stores.{put, bytes_of_each}
 use Rattle.octets.proofs.Storing.{put_room, put_length, each_append}
+use Rattle.refusals.specs.declared.Refusal.TheVariants.{ClosingSum}
 use Rattle.signalling.specs.declared.Kind.{Kind}
 use Rattle.signalling.specs.declared.Kind.TheVariants.{Start, Continuation, End, Other}
 use Rattle.signalling.specs.declared.Opened.{Opened}
@@ -104,7 +105,7 @@ module _ (b0 b1 b2 b3 b4 b5 b6 b7 : ℕ) (m : Opened) (l : List ℕ) (room : 153
 
     -- "the CRC bytes": the register kept is the sum of all bytes of the groups
     ends : m.count ≡ m.grnb → (c : Bool) → eqb (sum_of (group_bytes s cs ++ take 6 g)) (closing_sum g) ≡ c
-        → shown (put l (place_of m) (end_bytes g)) (pick (eqb (65535 - fed m.crc (take 6 g)) (closing_sum g)) (Message m.kind (8 + 6 * m.count)) (Drop 26)) ≡ some (closed s cs g)
+        → shown (put l (place_of m) (end_bytes g)) (pick (eqb (65535 - fed m.crc (take 6 g)) (closing_sum g)) (Message m.kind (8 + 6 * m.count)) (Drop ClosingSum)) ≡ some (closed s cs g)
     ends h true e =
         let n : 8 + 6 * m.count ≡ place_of m + 4 = omega arith in
         rw (closing m.crc (group_bytes s cs) (take 6 g) o.crc, e)

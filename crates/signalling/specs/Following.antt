@@ -4,6 +4,8 @@ use Rattle.std.specs.Prelude.{true, false, List, [], ◌∷◌, ◌++◌, ◌≡
 use Rattle.std.proofs.Math.Option.{Option, none, some}
 use Rattle.sum.specs.Sum.{ones, word, after, sent}
 use Rattle.octets.specs.Choice.{pick}
+use Rattle.refusals.specs.Refusals.{refusal_number}
+use Rattle.refusals.specs.declared.Refusal.TheVariants.{Length}
 use Rattle.signalling.specs.declared.Group.{Group}
 use Rattle.signalling.specs.declared.Opened.{Opened}
 use Rattle.signalling.specs.declared.State.{State}
@@ -45,8 +47,8 @@ pub record Holds (gathered : Gathering) (strung : Strung) (s : State) (l : List 
 abbrev pub shown : List ℕ → Item → Option Handed
 shown l Nothing = none
 shown l (Message type n) = some (message type (take n l))
-shown l (Drop n) = some (dropped n)
-shown l (Refused n) = none
+shown l (Drop r) = some (dropped (refusal_number r))
+shown l (Refused r) = none
 
 abbrev pub with_more : List Frame → Frame → List Frame
 with_more seen f = seen ++ (f ∷ [])
@@ -56,9 +58,9 @@ pub record Follows (seen : List Frame) (f : Frame) (r : Step) (l : List ℕ) : T
   pub item : items (with_more seen f) ≡ items seen ++ giving (shown l r.item) []
   pub holds : Holds (gathering (with_more seen f)) (stringing (with_more seen f)) r.state l
 
--- a step from s that is lent the buffer l: a buffer shorter than the longest message is refused with 1, and nothing is changed
+-- a step from s that is lent the buffer l: a buffer shorter than the longest message is refused for its length (1), and nothing is changed
 pub record Steps (s : State) (fp mnsc : ℕ) (l : List ℕ) (r : Step) (after : List ℕ) : Type 0 where
-  pub item : item_values r.item ≡ item_values (pick (ltb (length l) 1538) (Refused 1) (step_by s fp mnsc).item)
+  pub item : item_values r.item ≡ item_values (pick (ltb (length l) 1538) (Refused Length) (step_by s fp mnsc).item)
   pub state : r.state ≡ pick (ltb (length l) 1538) s (step_by s fp mnsc).state
   pub buffer : after ≡ pick (ltb (length l) 1538) l (step_buffer s fp mnsc l)
   pub follows : (seen : List Frame) → Holds (gathering seen) (stringing seen) s l → Follows seen (record { fp = fp; mnsc = mnsc }) r after

@@ -2,8 +2,8 @@
 -- Assumes nothing.
 use Rattle.std.specs.Prelude.{List, ◌≡◌, ℕ}
 use Rattle.signalling.specs.declared.Kind.{Kind}
-use Rattle.signalling.specs.declared.Group.{Group}
 use Rattle.signalling.specs.declared.Opened.{Opened}
+use Rattle.signalling.specs.declared.State.{State}
 use Rattle.signalling.specs.declared.Taken.{Taken}
 use Rattle.signalling.specs.declared.Step.{Step}
 use Rattle.signalling.specs.OnNumbers.{taken_by, buffer_by, step_by, step_buffer}
@@ -14,6 +14,6 @@ pub record Taking (k : Kind) (m : Opened) (g l : List ℕ) (r : Taken) (after : 
   pub buffer : after ≡ buffer_by k m g l
 
 -- a step with a buffer that is long enough
-pub record Stepping (g : Group) (m : Opened) (fp mnsc : ℕ) (l : List ℕ) (r : Step) (after : List ℕ) : Type 0 where
-  pub step : r ≡ step_by (record { group = g; message = m }) fp mnsc
-  pub buffer : after ≡ step_buffer (record { group = g; message = m }) fp mnsc l
+pub record Stepping (s : State) (fp mnsc : ℕ) (l : List ℕ) (r : Step) (after : List ℕ) : Type 0 where
+  pub step : r ≡ step_by s fp mnsc
+  pub buffer : after ≡ step_buffer s fp mnsc l

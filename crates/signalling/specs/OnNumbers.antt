@@ -4,6 +4,8 @@ use Rattle.std.specs.Prelude.{Bool, true, false, ◌&&◌, List, [], ◌∷◌, 
 use Rattle.sum.specs.Sum.{word, load, after, sent}
 use Rattle.octets.specs.Choice.{pick}
 use Rattle.octets.specs.Stores.{put}
+use Rattle.refusals.specs.Refusals.{refusal_number, refusal_by}
+use Rattle.refusals.specs.declared.Refusal.TheVariants.{OutOfPhase, OutOfTurn, ClosingSum}
 use Rattle.signalling.specs.declared.Kind.{Kind}
 use Rattle.signalling.specs.declared.Kind.TheVariants.{Start, Continuation, End, Other}
 use Rattle.signalling.specs.declared.Group.{Group}
@@ -19,27 +21,27 @@ use Rattle.signalling.specs.Messages.{SB, kind_of, closing_sum, end_bytes, start
 abbrev pub item_kind : Item → ℕ
 item_kind Nothing = 0
 item_kind (Message type n) = 1
-item_kind (Drop n) = 2
-item_kind (Refused n) = 3
+item_kind (Drop r) = 2
+item_kind (Refused r) = 3
 
 abbrev pub item_number : Item → ℕ
 item_number Nothing = 0
 item_number (Message type n) = type
-item_number (Drop n) = n
-item_number (Refused n) = n
+item_number (Drop r) = refusal_number r
+item_number (Refused r) = refusal_number r
 
 abbrev pub item_length : Item → ℕ
 item_length Nothing = 0
 item_length (Message type n) = n
-item_length (Drop n) = 0
-item_length (Refused n) = 0
+item_length (Drop r) = 0
+item_length (Refused r) = 0
 
 abbrev pub item_values : Item → List ℕ
 item_values x = item_kind x ∷ item_number x ∷ item_length x ∷ []
 
 -- the item of its values
 abbrev pub item_by : ℕ → ℕ → ℕ → Item
-item_by kind number n = pick (eqb kind 0) Nothing (pick (eqb kind 1) (Message number n) (pick (eqb kind 2) (Drop number) (Refused number)))
+item_by kind number n = pick (eqb kind 0) Nothing (pick (eqb kind 1) (Message number n) (pick (eqb kind 2) (Drop (refusal_by number)) (Refused (refusal_by number))))
 
 -- the word of the sum's register after these bytes more
 unfoldable pub fed : ℕ → List ℕ → ℕ
@@ -58,12 +60,12 @@ beginning = record { group = no_group false; message = no_message }
 unfoldable pub started_by : Bool → List ℕ → Taken
 started_by on g =
     record {
-      item = pick on (Drop 25) Nothing;
+      item = pick on (Drop OutOfTurn) Nothing;
       message = record { on = true; kind = SB g 2; grnb = SB g 3; count = 0; crc = fed 65535 g };
     }
 
 abbrev pub not_due : Taken
-not_due = record { item = Drop 25; message = no_message }
+not_due = record { item = Drop OutOfTurn; message = no_message }
 
 -- where the message bytes go on in the buffer
 abbrev pub place_of : Opened → ℕ
@@ -85,7 +87,7 @@ unfoldable pub ended_by : Opened → List ℕ → Taken
 ended_by m g =
     pick (end_due m)
     (record {
-      item = pick (eqb (65535 - fed m.crc (take 6 g)) (closing_sum g)) (Message m.kind (8 + 6 * m.count)) (Drop 26);
+      item = pick (eqb (65535 - fed m.crc (take 6 g)) (closing_sum g)) (Message m.kind (8 + 6 * m.count)) (Drop ClosingSum);
       message = no_message;
     })
     not_due
@@ -107,7 +109,7 @@ abbrev pub stepped : Item → Group → Opened → Step
 stepped item g m = record { item = item; state = record { group = g; message = m } }
 
 unfoldable pub out_item : Bool → Item
-out_item waiting = pick waiting Nothing (Drop 24)
+out_item waiting = pick waiting Nothing (Drop OutOfPhase)
 
 abbrev pub begun_by : ℕ → Group
 begun_by mnsc = record { due = 1; waiting = false; p0 = mnsc; p1 = 0; p2 = 0 }

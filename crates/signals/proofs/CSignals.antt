@@ -6,7 +6,7 @@ use mathlib.Core.Path.{◌≡◌, refl, sym, ap, subst, ◌∙◌}
 use Prim.Native.Nat.{ℕ, ◌≤◌}
 use native.Mathlib.Omega.{arith}
 use lib.ListN.{length, replicate}
-use borrow.Author.Tests.{eq-eqb, ne_eqb, le-ltb}
+use borrow.Author.Tests.{eq-eqb, le-ltb}
 use Rattle.signalling.specs.declared.State.{State}
 use Rattle.signalling.specs.declared.Step.{Step}
 use Rattle.signalling.specs.Feeding.{giving, run}
@@ -22,11 +22,6 @@ use Rattle.signals.specs.SignalClauses.{Left}
 use Rattle.signals.proofs.SignalBack.{none_holds, zero-begins_signal}
 
 -- ---- one call
-pub refused : (fp mnsc : ℕ) (w l : List ℕ) (n : ℕ) → signal_refusal w l ≡ n → (n ≡ 0 → ⊥) → Signalled fp mnsc w l n w l
-refused fp mnsc w l n e z =
-    let t = ne_eqb (signal_refusal w l) 0 (λ q. z (sym e ∙ q)) in
-    record { number = sym e; signal = rw t; buffer = rw t; state = λ q. absurd (z (sym e ∙ q)); item = λ q. absurd (z (sym e ∙ q)); next = λ q. absurd (z (sym e ∙ q)) }
-
 pub given : (fp mnsc : ℕ) (w l : List ℕ) (s : State) (r : Step) (w' l' : List ℕ) → signal_refusal w l ≡ 0 → 1538 ≤ length l → s ≡ state_at w
     → Steps s fp mnsc l r l' → Left r.item r.state w' → Signalled fp mnsc w l 0 w' l'
 given fp mnsc w l s r w' l' z long e t k =

@@ -3,12 +3,13 @@
 use mathlib.Core.Bool.{Bool, true, false}
 use mathlib.Core.List.{List, ◌++◌}
 use mathlib.Core.Path.{◌≡◌, refl, sym, ap, ap₂, subst, ◌∙◌}
-use Prim.Native.Nat.{ℕ, ◌/◌, ◌%◌, ◌^◌, ◌≤◌, ◌<◌}
+use Prim.Native.Nat.{ℕ, ◌^◌, ◌≤◌, ◌<◌}
 use native.Mathlib.Omega.{arith}
-use borrow.Author.Tests.{eq-eqb, ne_eqb, lt-ltb, le-ltb}
-use lib.Dec.{eqb}
+use borrow.Author.Tests.{eq-eqb, eqb-true, le-ltb, ltb-false}
+use lib.Dec.{eqb, ltb}
 use lib.ListN.{length, get_or, replicate}
 use Rattle.sum.specs.Sum.{digit}
+use Rattle.octets.specs.Choice.{pick}
 use Rattle.octets.specs.Words.{split, join, Fit, bytes8, eight_at}
 use Rattle.octets.specs.Stores.{put}
 use Rattle.octets.proofs.SplitJoin.{join_split, split_join, join_lt}
@@ -21,9 +22,6 @@ use Rattle.signalling.specs.OnNumbers.{beginning}
 use Rattle.signalling.proofs.StepFixed.{item_by_lem}
 use Rattle.signals.specs.SignalBytes.{item_kind, item_number, item_length, group_widths, group_values, message_widths, message_values, signal_bytes, group_in, message_in, state_at, item_by, item_at, signal_refusal, Accepted}
 use Rattle.signals.specs.SignalClauses.{Left}
-
-pub low_pair : (w : ℕ) → w % 65536 ≡ w / 1 % 65536
-low_pair w = omega arith
 
 bit_back : (b : Bool) → eqb (digit b) 1 ≡ b
 bit_back true = refl
@@ -43,30 +41,21 @@ message_back m kind number h =
     ap (λ (vs : List ℕ). record { on = eqb (get_or vs 0 0) 1; kind = get_or vs 1 0; grnb = get_or vs 2 0; count = get_or vs 3 0; crc = get_or vs 4 0 }) e
     ∙ ap (λ (b : Bool). record { on = b; kind = m.kind; grnb = m.grnb; count = m.count; crc = m.crc }) (bit_back m.on)
 
--- ---- which refusal
-module _ (w l : List ℕ) where
-  pub other_length : (length w ≡ 24 → ⊥) → signal_refusal w l ≡ 1
-  unfolding signal_refusal
-  other_length h = rw (ne_eqb (length w) 24 h)
+-- a call with 24 bytes, a buffer that is long enough, and two bits
+pub none_holds : (w l : List ℕ) → length w ≡ 24 → 1538 ≤ length l → get_or w 1 0 ≤ 1 → get_or w 8 0 ≤ 1 → signal_refusal w l ≡ 0
+unfolding signal_refusal
+none_holds w l e long waiting on = rw (eq-eqb (length w) 24 e, le-ltb (length l) 1538 long, le-ltb 1 (get_or w 1 0) waiting, le-ltb 1 (get_or w 8 0) on)
 
-  module _ (e : length w ≡ 24) where
-    pub short_buffer : length l < 1538 → signal_refusal w l ≡ 1
-    unfolding signal_refusal
-    short_buffer h = rw (eq-eqb (length w) 24 e, lt-ltb (length l) 1538 h)
-
-    module _ (long : 1538 ≤ length l) where
-      pub wide_waiting : 1 < get_or w 1 0 → signal_refusal w l ≡ 12
-      unfolding signal_refusal
-      wide_waiting h = rw (eq-eqb (length w) 24 e, le-ltb (length l) 1538 long, lt-ltb 1 (get_or w 1 0) h)
-
-      module _ (waiting : get_or w 1 0 ≤ 1) where
-        pub wide_open : 1 < get_or w 8 0 → signal_refusal w l ≡ 12
-        unfolding signal_refusal
-        wide_open h = rw (eq-eqb (length w) 24 e, le-ltb (length l) 1538 long, le-ltb 1 (get_or w 1 0) waiting, lt-ltb 1 (get_or w 8 0) h)
-
-        pub none_holds : get_or w 8 0 ≤ 1 → signal_refusal w l ≡ 0
-        unfolding signal_refusal
-        none_holds h = rw (eq-eqb (length w) 24 e, le-ltb (length l) 1538 long, le-ltb 1 (get_or w 1 0) waiting, le-ltb 1 (get_or w 8 0) h)
+-- and what such a call is known by
+pub accepted : (w l : List ℕ) → 0 ≡ signal_refusal w l → (length w ≡ 24) × (1538 ≤ length l)
+unfolding signal_refusal
+accepted w l e = go (eqb (length w) 24) (ltb (length l) 1538) refl refl e
+  where
+    go : (a b : Bool) → eqb (length w) 24 ≡ a → ltb (length l) 1538 ≡ b
+        → ◌≡◌ {A = ℕ} 0 (pick a (pick b 1 (pick (ltb 1 (get_or w 1 0)) 12 (pick (ltb 1 (get_or w 8 0)) 12 0))) 1) → (length w ≡ 24) × (1538 ≤ length l)
+    go true false p q z = (eqb-true (length w) 24 p, ltb-false (length l) 1538 q)
+    go true true p q z = absurd (omega arith)
+    go false b p q z = absurd (omega arith)
 
 -- ---- what is left
 digit_bit : (b : Bool) → digit b ≤ 1
@@ -118,16 +107,16 @@ module _ (x : Item) (s : State) (f : Fit group_widths (group_values s.group)) (g
       let whole : r ≡ signal_bytes x s = three ∙ put_all l (signal_bytes x s) (sym e) in
       record { bytes = whole; state = ap state_at whole ∙ state_again; item = ap item_at whole ∙ item_again h; next = subst Accepted (sym whole) next }
 
--- the same from the numbers that the code worked out
-pub left_by : (x : Item) (s : State) (kind number len first second : ℕ) → kind ≡ item_kind x → number ≡ item_number x → len ≡ item_length x → len < 2 ^ 64
-    → (first ≡ join group_widths (group_values s.group)) × Fit group_widths (group_values s.group)
-    → (second ≡ join message_widths (message_values s.message kind number)) × Fit message_widths (message_values s.message kind number)
-    → (l a b r : List ℕ) → length l ≡ 24 → a ≡ put l 0 (split bytes8 first) → b ≡ put a 8 (split bytes8 second) → r ≡ put b 16 (split bytes8 len) → Left x s r
-left_by x s kind number len first second k n e h p q l a b r whole t u v =
-    left x s p.1 (subst (λ (i : ℕ). Fit message_widths (message_values s.message (item_kind x) i)) n (subst (λ (i : ℕ). Fit message_widths (message_values s.message i number)) k q.1))
-    l a b r len whole (subst (λ (i : ℕ). i < 2 ^ 64) e h) e
-    (t ∙ ap (λ (i : ℕ). put l 0 (split bytes8 i)) p.0)
-    (u ∙ ap (λ (i : ℕ). put a 8 (split bytes8 i)) (q.0 ∙ ap₂ (λ (i j : ℕ). join message_widths (message_values s.message i j)) k n))
+-- the same from what the code worked out
+pub left_by : {x : Item} {s : State} {kind number len : ℕ} {first second : List ℕ} (l : List ℕ) {a b r : List ℕ} → (kind ≡ item_kind x) × (number ≡ item_number x) × (len ≡ item_length x) → len < 2 ^ 64
+    → (first ≡ split bytes8 (join group_widths (group_values s.group))) × Fit group_widths (group_values s.group)
+    → (second ≡ split bytes8 (join message_widths (message_values s.message kind number))) × Fit message_widths (message_values s.message kind number)
+    → length l ≡ 24 → a ≡ put l 0 first → b ≡ put a 8 second → r ≡ put b 16 (split bytes8 len) → Left x s r
+left_by {x} {s} {kind} {number} {len} {first} {second} l {a} {b} {r} e h p q whole t u v =
+    left x s p.1 (subst (λ (i : ℕ). Fit message_widths (message_values s.message (item_kind x) i)) e.1 (subst (λ (i : ℕ). Fit message_widths (message_values s.message i number)) e.0 q.1))
+    l a b r len whole (subst (λ (i : ℕ). i < 2 ^ 64) e.2 h) e.2
+    (t ∙ ap (put l 0) p.0)
+    (u ∙ ap (put a 8) (q.0 ∙ ap₂ (λ (i j : ℕ). split bytes8 (join message_widths (message_values s.message i j))) e.0 e.1))
     v
 
 pub zero-begins_signal : state_at (replicate 24 0) ≡ beginning

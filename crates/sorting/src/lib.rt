@@ -1,95 +1,68 @@
-// The tag items of a packet, judged: rules 20, 21, 22 and 35; and where their values lie.
+// The tag items of a packet, judged: rules 20, 21, 22 and 35.
 #![tactic(auto)]
 
-ghost use Rattle.std.specs.Prelude.{◌≡◌, ◌≤◌};
+ghost use Rattle.std.specs.Prelude.{◌≡◌, ◌<◌, MatchOption};
+ghost use Rattle.std.specs.List.{list_all};
+ghost use Rattle.refusals.specs.Refusals.{outcome_number};
 ghost use Rattle.frame.specs.Rules.{first};
 ghost use Rattle.items.specs.TagItems.{items_of, values_of, value_of};
-ghost use Rattle.items.specs.PassNotes.{Holds, ValueAt};
+ghost use Rattle.items.specs.PassNotes.{Holds, ValueAt, Finds};
 ghost use Rattle.tags.specs.TagValues.{level_in};
 ghost use Rattle.sorting.specs.TagRules.{is_managed, item_rules_of, Sorts};
-ghost use Rattle.sorting.specs.SortClauses.{once_to, Sound};
+ghost use Rattle.sorting.specs.SortClauses.{is_once};
 
-// The refusal's number, 0 for none; and, of a packet that is not refused, the highest stream number, and where the values of management and of the
-// streams lie.
-#[derive(Clone, Copy)]
-pub struct Sorted {
-    pub number: u8,
-    pub highest: usize,
-    pub starts: [usize; 66],
-    pub lens: [usize; 66],
-}
+use frame::Span;
+use items::{Met, Notes};
+use refusals::Refusal;
 
 // Of what is noted of the management item.
-fn managed(packet: &[u8], tally: u8, start: usize, len: usize) -> bool
-    requires { Holds packet.now (values_of 0 (items_of packet.now)) tally start len }
+fn managed(packet: &[u8], met: Met) -> bool
+    requires { Holds packet.now (values_of 0 (items_of packet.now)) met }
     ensures { result ≡ is_managed (items_of packet.now) }
 {
-    if tally == 1 {
-        return tags::called(items::value(packet, start, len));
+    match met {
+        Met::Once(span) => tags::called(items::value(packet, span)),
+        _ => false,
     }
-    false
 }
 
-// The level by the status byte.
-fn level(packet: &[u8], start: usize, len: usize) -> u8
-    requires { ValueAt packet.now (value_of 0 (items_of packet.now)) start len }
-    ensures { result ≡ level_in (value_of 0 (items_of packet.now)) }
+// The level by the status byte, if it is one of the four.
+fn level(packet: &[u8], span: Span) -> Option<u8>
+    requires { ValueAt packet.now (value_of 0 (items_of packet.now)) span }
+    ensures { MatchOption result (level_in (value_of 0 (items_of packet.now)) ≡ 4) (λ level. (level ≡ level_in (value_of 0 (items_of packet.now))) × (level < 4)) }
 {
-    let head = tags::deti(items::value(packet, start, len));
-    meaning::level(head.stat)
+    meaning::status_level(tags::deti(items::value(packet, span)).stat)
 }
 
-fn each_once(tallies: [u8; 66], n: usize) -> bool
-    requires { n ≤ 64 }
-    ensures { result ≡ once_to tallies n }
+fn all_once(notes: &[Met]) -> bool
+    ensures { result ≡ list_all is_once notes.now }
 {
-    let mut once = true;
-    let mut i = 0;
-    while i < n {
-        once = once & (tallies[i + 1] == 1);
-        i += 1;
-    }
-    once
+    notes.iter().all(|met| matches!(*met, Met::Once(_)))
 }
 
 // Rules 21, 22 and 35.
-fn parts(packet: &[u8], tallies: [u8; 66], start: usize, len: usize, n: usize) -> u8
-    requires { Sound packet.now tallies start len n }
-    ensures { result ≡ first (item_rules_of (items_of packet.now)) }
+fn judge(packet: &[u8], notes: &Notes) -> Result<(), Refusal>
+    requires { Finds packet.now notes.now }
+    ensures { outcome_number result ≡ first (item_rules_of (items_of packet.now)) }
 {
-    if managed(packet, tallies[0], start, len) {
-        if each_once(tallies, n) {
-            if level(packet, start, len) > 3 {
-                return 35;
-            }
-            return 0;
-        }
-        return 22;
+    let management = notes.met[0];
+    if !managed(packet, management) {
+        return Err(Refusal::ManagementItem);
     }
-    21
+    if !all_once(&notes.met[1..=notes.highest]) {
+        return Err(Refusal::StreamNumbers);
+    }
+    match level(packet, management.span()) {
+        Some(_) => Ok(()),
+        None => Err(Refusal::ItemStatus),
+    }
 }
 
-// The packet's number, by its items' rules in their order.
-pub fn sort(packet: &[u8]) -> Sorted
+// What is noted of a packet that none of its items' rules refuses.
+pub fn sort(packet: &[u8]) -> Result<Notes, Refusal>
     ensures { Sorts packet.now result }
 {
-    let notes = items::pass(packet);
-    let highest = notes.highest;
-    let tallies = notes.tallies;
-    let starts = notes.starts;
-    let lens = notes.lens;
-    if notes.broken {
-        return Sorted {
-            number: 20,
-            highest,
-            starts,
-            lens,
-        };
-    }
-    Sorted {
-        number: parts(packet, tallies, starts[0], lens[0], highest),
-        highest,
-        starts,
-        lens,
-    }
+    let notes = items::pass(packet)?;
+    judge(packet, &notes)?;
+    Ok(notes)
 }

@@ -1,29 +1,31 @@
-// Where the parts of a frame's main stream lie, and the refusal numbers of requests for them.
+// Where the parts of a frame's main stream lie, and which requests for them are refused.
 #![tactic(auto)]
 
 ghost use Rattle.std.specs.Prelude.{◌≡◌};
 ghost use Rattle.frame.specs.Frame.{fic_span, stream_span};
 ghost use Rattle.frame.specs.Rules.{refusal_of, stream_refusal_of, fic_part, stream_part};
+ghost use Rattle.refusals.specs.Refusals.{outcome_number};
 
 use frame::Span;
+use refusals::Refusal;
 
-// The refusal number of a request for the FIC: reading's.
-pub fn fic_refusal(frame: &[u8]) -> u8
-    ensures { result ≡ refusal_of frame.now }
+// Whether a request for the FIC is granted: refused as reading is.
+pub fn fic_refusal(frame: &[u8]) -> Result<(), Refusal>
+    ensures { outcome_number result ≡ refusal_of frame.now }
 {
     judging::judge(frame)
 }
 
-// The refusal number of a request for stream i: reading's, then 13.
-pub fn stream_refusal(frame: &[u8], i: usize) -> u8
-    ensures { result ≡ stream_refusal_of frame.now i }
+// Whether a request for stream i is granted: refused as for the FIC, then where there is no such stream.
+pub fn stream_refusal(frame: &[u8], i: usize) -> Result<(), Refusal>
+    ensures { outcome_number result ≡ stream_refusal_of frame.now i }
 {
-    let refusal = judging::judge(frame);
-    if refusal != 0 {
-        return refusal;
-    }
+    fic_refusal(frame)?;
     let fc = fields::fc(frame);
-    if (fc.nst as usize) <= i { 13 } else { 0 }
+    if fc.nst as usize <= i {
+        return Err(Refusal::NoSuchStream);
+    }
+    Ok(())
 }
 
 fn fic_span(frame: &[u8]) -> Span
@@ -55,18 +57,18 @@ fn stream_span(frame: &[u8], i: u8) -> Span
 pub fn fic_place(frame: &[u8]) -> Span
     ensures { result ≡ fic_part frame.now }
 {
-    if judging::judge(frame) != 0 {
-        return Span { start: 0, len: 0 };
+    match fic_refusal(frame) {
+        Ok(()) => fic_span(frame),
+        Err(_) => Span { start: 0, len: 0 },
     }
-    fic_span(frame)
 }
 
 // Where stream i lies, likewise.
 pub fn stream_place(frame: &[u8], i: usize) -> Span
     ensures { result ≡ stream_part frame.now i }
 {
-    if stream_refusal(frame, i) != 0 {
-        return Span { start: 0, len: 0 };
+    match stream_refusal(frame, i) {
+        Ok(()) => stream_span(frame, i as u8),
+        Err(_) => Span { start: 0, len: 0 },
     }
-    stream_span(frame, i as u8)
 }

@@ -1,22 +1,23 @@
 -- The stretched register: it keeps exclusive or, and a word that is fed back 8, 22 and 32 bytes on leaves the register what it was.
 -- Assumes nothing.
-use mathlib.Core.Path.{◌≡◌, refl, sym, ap, ap₂, ◌∙◌}
-use mathlib.Core.List.{List, [], ◌∷◌}
-use Prim.Native.Nat.{ℕ, ◌+◌, ◌-◌, ◌*◌, ◌/◌, ◌%◌, ◌^◌, ◌≤◌, ◌<◌}
-use native.Mathlib.Nat.{le_refl, suc_inj}
+use mathlib.Core.Path.{◌≡◌, refl, sym, ap, ap₂, subst, ◌∙◌}
+use mathlib.Core.List.{List, [], ◌∷◌, ◌++◌}
+use Prim.Native.Nat.{ℕ, zero, suc, ◌+◌, ◌*◌, ◌/◌, ◌%◌, ◌^◌, ◌<◌}
+use native.Mathlib.Nat.{suc_inj, add_comm, zero-mul, suc-mul}
 use native.Mathlib.Numerals.{add-one}
 use native.Mathlib.Omega.{arith}
-use lib.Arith.{digits_div, digits_mod}
 use lib.Bits.{bit_xor}
-use lib.ListN.{length, take, drop, get_or, replicate, length-replicate}
-use lib.Seq.{take-add, take-suc, take_all, drop-drop}
+use lib.ListN.{length, take, drop, get_or, replicate, length-replicate, take-append-drop}
+use Rattle.std.specs.Int.{w32, w64, to_be_bytes}
+use Rattle.std.specs.Simd.{first_chunks}
+use lib.Seq.{take-add, take-suc}
 use Rattle.octets.specs.Words.{split, bytes4}
-use Rattle.linear.proofs.Linear.{Linear, xors, right, left, low, then, nth, none, more, agree}
+use Rattle.linear.proofs.Linear.{Linear, xors, right, left, low, then, xor, nth, none, more, agree}
 use Rattle.sum.specs.Sum.{Register, stages, bit, feed, after, word, load}
 use Rattle.sum.proofs.SumLaws.{after_append}
 use Rattle.sum.proofs.Bits.{⊕-false}
 use Rattle.sum.proofs.Shifts.{◌⊞◌, Kept, loaded, fed, read, load_word, word_xor}
-use Rattle.stretch.specs.Stretch.{after4, after8, afters, blank, Stands}
+use Rattle.stretch.specs.Stretch.{after4, after8, afters, after_rows, blank, Stands}
 use Rattle.stretch.specs.declared.Stretched.{Stretched}
 use Rattle.stretch.proofs.Computed.{computed}
 
@@ -100,34 +101,80 @@ module _ (r : Register) (s : Stretched) (h : Stands r s) where
 pub on : (r : Register) (xs : List ℕ) (i k : ℕ) → after r (take (i + k) xs) ≡ after (after r (take i xs)) (take k (drop i xs))
 on r xs i k = ap (after r) (take-add i k xs) ∙ after_append r (take i xs) (take k (drop i xs))
 
--- a word more, from the register's word; eight bytes more of a list
-pub fed_word : (r : Register) (w v z : ℕ) → w ≡ word r → v ≡ word (after8 (load w) z) → v ≡ word (after8 r z)
-fed_word r w v z e f = f ∙ ap (λ (q : Register). word (after8 q z)) (ap load e ∙ load_word r)
+-- and its word and half a word are as one word, of which they are the lower half
+pub as_half : (w z : ℕ) → w < 2 ^ 16 → z < 2 ^ 32 → after4 (load w) z ≡ after8 blank (bit_xor (w * 2 ^ 16 % 2 ^ 64) z)
+unfolding after8 after4 load bit
+as_half w z h l =
+    same_word
+    (agree (read (kept4 (loaded (nth 0)) (nth 1))) (read (kept8 at_blank (xor (then (nth 0) (left 64 16)) (nth 1)))) (16 ∷ 32 ∷ []) (computed tt) (w ∷ z ∷ [])
+    (more h (more l none)))
 
-pub eight_on : (r : Register) (xs : List ℕ) (i k z : ℕ) {q : Register} → ((s : Register) → after8 s z ≡ after s (take 8 (drop (i + k) xs)))
-    → q ≡ after r (take k (drop i xs)) → after8 q z ≡ after r (take (k + 8) (drop i xs))
-eight_on r xs i k z {q} f e =
-    f q ∙ ap₂ (λ (p : Register) (ys : List ℕ). after p (take 8 ys)) e (sym (drop-drop k i xs)) ∙ sym (on r (drop i xs) k 8)
-
--- two halves of a word
-pub halves : (r : Register) (xs : List ℕ) (i p q : ℕ) → q < 2 ^ 32 → split bytes4 p ≡ take 4 (drop i xs) → split bytes4 q ≡ take 4 (drop (i + 4) xs)
-    → after8 r (p * 2 ^ 32 + q) ≡ after r (take 8 (drop i xs))
+-- the bytes of a word, and of half a word
+pub word_bytes : (r : Register) (n : ℕ) → after8 r n ≡ after r (to_be_bytes w64 n)
 unfolding after8 after4
-halves r xs i p q h e f =
-    ap₂ (λ (m n : ℕ). after4 (after4 r m) n) (digits_div p h) (digits_mod p h)
-    ∙ ap₂ (λ (ys zs : List ℕ). after (after r ys) zs) e (f ∙ ap (take 4) (sym (drop-drop 4 i xs))) ∙ sym (on r (drop i xs) 4 4)
+word_bytes r n =
+    let a : n / 2 ^ 32 / 2 ^ 24 % 2 ^ 8 ≡ n / 256 ^ 7 % 256 = omega arith in
+    let b : n / 2 ^ 32 / 2 ^ 16 % 2 ^ 8 ≡ n / 256 ^ 6 % 256 = omega arith in
+    let c : n / 2 ^ 32 / 2 ^ 8 % 2 ^ 8 ≡ n / 256 ^ 5 % 256 = omega arith in
+    let d : n / 2 ^ 32 / 2 ^ 0 % 2 ^ 8 ≡ n / 256 ^ 4 % 256 = omega arith in
+    let e : n % 2 ^ 32 / 2 ^ 24 % 2 ^ 8 ≡ n / 256 ^ 3 % 256 = omega arith in
+    let f : n % 2 ^ 32 / 2 ^ 16 % 2 ^ 8 ≡ n / 256 ^ 2 % 256 = omega arith in
+    let g : n % 2 ^ 32 / 2 ^ 8 % 2 ^ 8 ≡ n / 256 ^ 1 % 256 = omega arith in
+    let h : n % 2 ^ 32 / 2 ^ 0 % 2 ^ 8 ≡ n % 256 = omega arith in
+    let e : split bytes4 (n / 2 ^ 32) ++ split bytes4 (n % 2 ^ 32) ≡ to_be_bytes w64 n = cc in
+    ap (after r) e
 
--- the first four bytes, from the register's word
-pub four_on : (r : Register) (xs : List ℕ) (w v z : ℕ) → split bytes4 z ≡ take 4 xs → w ≡ word r → v ≡ word (after4 (load w) z) → v ≡ word (after r (take 4 xs))
+pub half_bytes : (r : Register) (n : ℕ) → after4 r n ≡ after r (to_be_bytes w32 n)
 unfolding after4
-four_on r xs w v z f e g = g ∙ ap word (ap₂ after (ap load e ∙ load_word r) f)
+half_bytes r n =
+    let h : n / 2 ^ 0 % 2 ^ 8 ≡ n % 256 = omega arith in
+    let e : split bytes4 n ≡ to_be_bytes w32 n = cc in
+    ap (after r) e
+
+-- from the register's word
+pub from_word : (s : Register) (w : ℕ) → w ≡ word s → load w ≡ s
+from_word s w e = ap load e ∙ load_word s
 
 -- one byte more
 pub byte_on : (r : Register) (xs : List ℕ) (i : ℕ) → i < length xs → after r (take (i + 1) xs) ≡ feed (after r (take i xs)) (get_or xs i 0)
 byte_on r xs i h = rw (add-one i, take-suc xs i 0 h) (after_append r (take i xs) (get_or xs i 0 ∷ []))
 
 -- the first n bytes, and all the others
-pub whole : (r : Register) (xs : List ℕ) (n : ℕ) → n ≤ length xs → after (after r (take n xs)) (take (length xs - n) (drop n xs)) ≡ after r xs
-whole r xs n h =
-    let e : n + (length xs - n) ≡ length xs = omega arith in
-    sym (on r xs n (length xs - n)) ∙ ap (λ (m : ℕ). after r (take m xs)) e ∙ ap (after r) (take_all (length xs) xs (le_refl (length xs)))
+pub whole : (r : Register) (xs : List ℕ) (n : ℕ) → after (after r (take n xs)) (drop n xs) ≡ after r xs
+whole r xs n = sym (after_append r (take n xs) (drop n xs)) ∙ ap (after r) (take-append-drop n xs)
+
+-- ---- rows of bytes
+pub rows_append : (r : Register) (us vs : List (List ℕ)) → after_rows r (us ++ vs) ≡ after_rows (after_rows r us) vs
+rows_append r [] vs = refl
+rows_append r (u ∷ us) vs = rows_append (after r u) us vs
+
+-- one row more
+pub row_more : (r : Register) (ws : List (List ℕ)) (i : ℕ) → i < length ws → after_rows r (take (i + 1) ws) ≡ after (after_rows r (take i ws)) (get_or ws i [])
+row_more r ws i h = rw (add-one i, take-suc ws i [] h) (rows_append r (take i ws) (get_or ws i [] ∷ []))
+
+-- the first n rows, and all the others
+pub all_rows : (r : Register) (ws : List (List ℕ)) (n : ℕ) → after_rows (after_rows r (take n ws)) (drop n ws) ≡ after_rows r ws
+all_rows r ws n = sym (rows_append r (take n ws) (drop n ws)) ∙ ap (after_rows r) (take-append-drop n ws)
+
+-- the rows of n bytes that a list begins with, and what is behind them
+pub cut : (r : Register) (n k : ℕ) (xs : List ℕ) → after_rows r (first_chunks n k xs) ≡ after r (take (k * n) xs)
+cut r n zero xs = simp zero-mul
+cut r n (suc k) xs = cut (after r (take n xs)) n k (drop n xs) ∙ rw (suc-mul k n, add_comm (k * n) n) (sym (on r xs n (k * n)))
+
+-- a list cut into rows and what is behind them
+pub chunked : (r : Register) (n : ℕ) (xs ys : List ℕ) (ws : List (List ℕ)) → ws ≡ first_chunks n (length xs / n) xs → ys ≡ drop (length xs / n * n) xs
+    → after (after_rows r ws) ys ≡ after r xs
+chunked r n xs ys ws e f = rw (e, f, cut r n (length xs / n) xs) (whole r xs (length xs / n * n))
+
+pub stands_on : {r q : Register} {s : Stretched} → r ≡ q → Stands r s → Stands q s
+stands_on {s = s} e = subst (λ (p : Register). Stands p s) e
+
+-- four rows, each a word
+pub four_rows : (q : Register) (ws : List (List ℕ)) (x y z u : ℕ) → length ws ≡ 4
+    → ((s : Register) → after8 s x ≡ after s (get_or ws 0 [])) → ((s : Register) → after8 s y ≡ after s (get_or ws 1 []))
+    → ((s : Register) → after8 s z ≡ after s (get_or ws 2 [])) → ((s : Register) → after8 s u ≡ after s (get_or ws 3 []))
+    → afters q (x ∷ y ∷ z ∷ u ∷ []) ≡ after_rows q ws
+four_rows q (a ∷ b ∷ c ∷ d ∷ []) x y z u e f g h i =
+    i (after8 (after8 (after8 q x) y) z) ∙ ap (λ (s : Register). after s d)
+    (h (after8 (after8 q x) y) ∙ ap (λ (s : Register). after s c) (g (after8 q x) ∙ ap (λ (s : Register). after s b) (f q)))
+four_rows q _ x y z u e f g h i = absurd (omega arith)

@@ -16,6 +16,11 @@ abbrev pub afters : Register → List ℕ → Register
 afters r [] = r
 afters r (z ∷ zs) = afters (after8 r z) zs
 
+-- a register after rows of bytes, one after the other
+abbrev pub after_rows : Register → List (List ℕ) → Register
+after_rows r [] = r
+after_rows r (w ∷ ws) = after_rows (after r w) ws
+
 -- the register with no stage set
 abbrev pub blank : Register
 blank = load 0

@@ -2,6 +2,7 @@
 -- Assumes nothing.
 use Rattle.std.specs.Prelude.{Bool, List, [], ◌∷◌, ◌≡◌, ℕ, ◌+◌, ◌-◌, ◌*◌, ◌/◌, eqb, length, get_or, take, drop}
 use Rattle.octets.specs.Choice.{pick, place_in}
+use Rattle.sum.specs.Sum.{digit}
 use Rattle.octets.specs.Words.{split, two_at, word_at, eight_at}
 use Rattle.frame.specs.declared.Fields.{Fields}
 use Rattle.frame.specs.declared.Stream.{Stream}
@@ -43,9 +44,9 @@ unfoldable pub mnsc_in : List ℕ → ℕ
 mnsc_in m = two_at m 4
 
 pub record IsDeti (m : List ℕ) (r : Head) : Type 0 where
-  pub atstf : r.atstf ≡ atstf_in m
-  pub ficf : r.ficf ≡ ficf_in m
-  pub rfudf : r.rfudf ≡ rfudf_in m
+  pub atstf : digit r.atstf ≡ atstf_in m
+  pub ficf : digit r.ficf ≡ ficf_in m
+  pub rfudf : digit r.rfudf ≡ rfudf_in m
   pub fct : r.fct ≡ fct_in m
   pub stat : r.stat ≡ stat_in m
   pub mid : r.mid ≡ mid_in m

@@ -9,9 +9,9 @@ use frame::{Fields, Span, Stream, Timestamp};
 // The first word of a management item's value m.
 #[derive(Clone, Copy)]
 pub struct Head {
-    pub atstf: u8,
-    pub ficf: u8,
-    pub rfudf: u8,
+    pub atstf: bool,
+    pub ficf: bool,
+    pub rfudf: bool,
     pub fct: u8,
     pub stat: u8,
     pub mid: u8,
@@ -23,37 +23,40 @@ pub fn deti(m: &[u8]) -> Head
 {
     let w = octets::word(m, 0);
     Head {
-        atstf: (w / 2147483648 % 2) as u8,
-        ficf: (w / 1073741824 % 2) as u8,
-        rfudf: (w / 536870912 % 2) as u8,
-        fct: (w / 65536 % 256) as u8,
-        stat: (w / 256 % 256) as u8,
-        mid: (w / 64 % 4) as u8,
-        fp: (w / 8 % 8) as u8,
+        atstf: (w >> 31) % 2 == 1,
+        ficf: (w >> 30) % 2 == 1,
+        rfudf: (w >> 29) % 2 == 1,
+        fct: ((w >> 16) % 256) as u8,
+        stat: ((w >> 8) % 256) as u8,
+        mid: ((w >> 6) % 4) as u8,
+        fp: ((w >> 3) % 8) as u8,
     }
 }
 
-fn timestamp(m: &[u8], atstf: u8) -> Timestamp
-    requires { atstf ≡ atstf_in m.now }
+#[tactic(auto, using(crate::proofs::TagLaws::flags), unfolding(crate::specs::TagValues::timestamp_in, crate::specs::TagValues::tsta_in))]
+fn timestamp(m: &[u8]) -> Timestamp
     ensures { result ≡ timestamp_in m.now }
 {
-    if atstf == 0 {
-        return Timestamp::Absent;
+    if deti(m).atstf {
+        reading::timestamp((octets::eight(m, 6) % 0x1000000) as u32)
+    } else {
+        Timestamp::Absent
     }
-    reading::timestamp((octets::eight(m, 6) % 16777216) as u32)
 }
 
 // Where the FIC lies.
+#[tactic(auto, using(crate::proofs::TagLaws::flags), unfolding(crate::specs::TagValues::fic_place))]
 pub fn fic(m: &[u8]) -> Span
     ensures { (result.start ≡ fic_place m.now) × (result.len ≡ 4 * ficl_in m.now) }
 {
     let deti = deti(m);
     Span {
-        start: 6 + 8 * (deti.atstf as usize),
-        len: 4 * meaning::ficl(deti.ficf, deti.mid),
+        start: 6 + 8 * usize::from(deti.atstf),
+        len: 4 * meaning::ficl(u8::from(deti.ficf), deti.mid),
     }
 }
 
+#[tactic(auto, using(crate::proofs::TagLaws::places), unfolding(crate::specs::TagValues::rfud_place))]
 fn rfud_place(m: &[u8]) -> usize
     ensures { (result ≡ rfud_place m.now) × (result ≤ 142) }
 {
@@ -61,65 +64,68 @@ fn rfud_place(m: &[u8]) -> usize
     fic.start + fic.len
 }
 
-fn rfu(m: &[u8], rfudf: u8) -> u16
-    requires { rfudf ≡ rfudf_in m.now }
+#[tactic(auto, using(crate::proofs::TagLaws::flags), unfolding(crate::specs::TagValues::rfu_in))]
+fn rfu(m: &[u8]) -> u16
     ensures { result ≡ rfu_in m.now }
 {
-    if rfudf == 0 {
-        return 0xFFFF;
+    if deti(m).rfudf {
+        octets::two(m, rfud_place(m)) as u16
+    } else {
+        0xFFFF
     }
-    octets::two(m, rfud_place(m)) as u16
 }
 
-fn rfa(m: &[u8], rfudf: u8) -> u8
-    requires { rfudf ≡ rfudf_in m.now }
+#[tactic(auto, using(crate::proofs::TagLaws::flags), unfolding(crate::specs::TagValues::rfa_in))]
+fn rfa(m: &[u8]) -> u8
     ensures { result ≡ rfa_in m.now }
 {
-    if rfudf == 0 {
-        return 0xFF;
+    if deti(m).rfudf {
+        octets::byte(m, rfud_place(m) + 2) as u8
+    } else {
+        0xFF
     }
-    octets::byte(m, rfud_place(m) + 2) as u8
 }
 
 // It has the length that its flags and MID call for.
+#[tactic(auto, using(crate::proofs::TagLaws::flags), unfolding(crate::specs::TagValues::length_for))]
 pub fn called(m: &[u8]) -> bool
     ensures { result ≡ eqb (length m.now) (length_for m.now) }
 {
-    let deti = deti(m);
-    m.len() == rfud_place(m) + 3 * (deti.rfudf as usize)
+    m.len() == rfud_place(m) + 3 * usize::from(deti(m).rfudf)
 }
 
 // The fields of the frame, with its sync word, its streams' count and table.
+#[tactic(auto, using(crate::proofs::TagLaws::flags), unfolding(crate::specs::TagValues::fields_by, crate::specs::TagValues::mnsc_in))]
 pub fn fields(m: &[u8], fsync1: bool, count: usize, table: [Stream; 64]) -> Fields
     ensures { result ≡ fields_by m.now fsync1 count table }
 {
     let deti = deti(m);
-    let timestamp = timestamp(m, deti.atstf);
     Fields {
         level: meaning::level(deti.stat),
         fsync1,
         fct: deti.fct,
-        ficf: deti.ficf == 1,
+        ficf: deti.ficf,
         fp: deti.fp,
         mid: deti.mid,
         mnsc: octets::two(m, 4) as u16,
-        rfu: rfu(m, deti.rfudf),
-        rfa: rfa(m, deti.rfudf),
-        timestamp,
+        rfu: rfu(m),
+        rfa: rfa(m),
+        timestamp: timestamp(m),
         count,
         table,
     }
 }
 
 // The entry of a stream item's value v, with its STL.
+#[tactic(auto, unfolding(crate::specs::TagValues::entry_by))]
 pub fn entry(v: &[u8], stl: u16) -> Stream
     ensures { result ≡ entry_by v.now stl }
 {
     let address = octets::two(v, 0);
     Stream {
-        scid: (address / 1024 % 64) as u8,
+        scid: ((address >> 10) % 64) as u8,
         sad: (address % 1024) as u16,
-        tpl: (octets::byte(v, 2) / 4 % 64) as u8,
+        tpl: ((octets::byte(v, 2) >> 2) % 64) as u8,
         stl,
     }
 }

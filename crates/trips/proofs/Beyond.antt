@@ -6,7 +6,7 @@ use Prim.Native.Nat.{ℕ}
 use native.Mathlib.Nat.{le_refl}
 use lib.Seq.{take-take}
 use Rattle.frame.specs.declared.Fields.{Fields}
-use Rattle.frame.specs.declared.Answer.TheVariants.{Accepted}
+use Rattle.std.specs.Prelude.{Ok}
 use Rattle.frame.specs.declared.Header.{Header}
 use Rattle.frame.specs.Writing.{entries_of, fl_in, values_in, wider, writing_refusal_of, sync_in, header_in, end_in, frame_in}
 use Rattle.frame.proofs.Fixed.{answer_fixed}
@@ -33,7 +33,7 @@ headed x =
 
 headed_same : (x y : Fields) → values_in x ≡ values_in y → headed x ≡ headed y
 unfolding values_in
-headed_same x y e = let a = answer_fixed (Accepted (headed x)) (Accepted (headed y)) refl (ap (λ (vs : List ℕ). vs ++ (0 ∷ 0 ∷ [])) e) in cc
+headed_same x y e = let a = answer_fixed (Ok (headed x)) (Ok (headed y)) refl (ap (λ (vs : List ℕ). vs ++ (0 ∷ 0 ∷ [])) e) in cc
 
 -- x with its table cut off at the count
 abbrev trimmed : Fields → Fields

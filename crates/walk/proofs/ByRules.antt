@@ -39,12 +39,12 @@ module _ (R : Judged) (p : ℕ) where
 pub by_item : (R : Judged) (p : ℕ) (Q : Item → Bool → Type 0) →
     (R.stands p ≡ true → Q (frame_at R p) true) →
     (R.null p ≡ true → Q (Idle p) true) →
-    (R.stands p ≡ false → R.null p ≡ false → Q (Lost p (R.number p)) false) →
+    (R.stands p ≡ false → R.null p ≡ false → Q (Lost p (R.refusal p)) false) →
     Q (item_at R p) (keeps R p)
 unfolding item_at keeps
 by_item R p Q frame idle lost = go (R.stands p) (R.null p) refl refl
   where
-    go : (a b : Bool) → R.stands p ≡ a → R.null p ≡ b → Q (pick a (frame_at R p) (pick b (Idle p) (Lost p (R.number p)))) (a || b)
+    go : (a b : Bool) → R.stands p ≡ a → R.null p ≡ b → Q (pick a (frame_at R p) (pick b (Idle p) (Lost p (R.refusal p)))) (a || b)
     go true b e d = frame e
     go false true e d = idle d
     go false false e d = lost e d

@@ -10,6 +10,7 @@ use borrow.Author.Tests.{leb-true, eqb-true, eqb-false, le-leb, lt-leb, eq-eqb, 
 use Rattle.frame.specs.declared.Header.{Header}
 use Rattle.octets.specs.Choice.{pick}
 use Rattle.octets.proofs.Deciding.{both}
+use Rattle.refusals.specs.declared.Refusal.TheVariants.{Sync}
 use Rattle.walk.specs.Walk.{Judged, Frame, Lost, Idle, Done, confirmed, live, item_at, keeps, look_locked, look_hunting, look, left, looks_in, looks, giving, items_of, items, rest_in, rest, step_by, step_in, step_of, calls, begin}
 use Rattle.walk.specs.AnyJudging.{Ends}
 
@@ -37,7 +38,7 @@ module _ (header : ℕ → Header) where
         null = λ q. leb (q + 6144) a && nulled q;
         sync = λ q. pick (leb a q) (eqb ((q - a) / 6144 % 2) 0) (word q);
         header = header;
-        number = λ q. 2;
+        refusal = λ q. Sync;
       }
 
   pub damaged_ends : (limit : ℕ) (stood nulled word : ℕ → Bool) (a n : ℕ) → Ends (damaged limit stood nulled word a n) a n
@@ -65,33 +66,33 @@ module _ (header : ℕ → Header) where
   off_phase_ends n = damaged_ends 3 (λ q. eqb (q % 6144) 0) (λ q. false) (λ q. eqb (q / 6144 % 2) 0) 12388 n
 
   -- of four intact frames the first two, at 12,388 and 18,532, are not handed out
-  pub first_two_lost : items (off_phase 4) begin ≡ Frame 0 (header 0) ∷ Frame 6144 (header 6144) ∷ Lost 12288 2 ∷ Lost 18432 2 ∷ Lost 24576 2 ∷ Frame 24676 (header 24676) ∷ Frame 30820 (header 30820) ∷ []
+  pub first_two_lost : items (off_phase 4) begin ≡ Frame 0 (header 0) ∷ Frame 6144 (header 6144) ∷ Lost 12288 Sync ∷ Lost 18432 Sync ∷ Lost 24576 Sync ∷ Frame 24676 (header 24676) ∷ Frame 30820 (header 30820) ∷ []
   unfolding items items_of giving looks looks_in left look look_locked look_hunting item_at keeps live confirmed
   first_two_lost = refl
 
   -- and of three none is, so that four must be asked for
-  pub three_too_few : items (off_phase 3) begin ≡ Frame 0 (header 0) ∷ Frame 6144 (header 6144) ∷ Lost 12288 2 ∷ Lost 18432 2 ∷ Lost 24576 2 ∷ []
+  pub three_too_few : items (off_phase 3) begin ≡ Frame 0 (header 0) ∷ Frame 6144 (header 6144) ∷ Lost 12288 Sync ∷ Lost 18432 Sync ∷ Lost 24576 Sync ∷ []
   unfolding items items_of giving looks looks_in left look look_locked look_hunting item_at keeps live confirmed
   three_too_few = refl
 
   -- NO STRAY NULL TRANSMISSION MUST BE SUPPOSED TOO: the same record, but that 18,432 reads as one; it keeps the false lock past the third of four intact frames, which is at 24,676
   abbrev pub stray : Judged
-  stray = let R = off_phase 4 in record { len = R.len; period = R.period; limit = R.limit; stands = R.stands; null = λ q. eqb q 18432; sync = R.sync; header = header; number = R.number }
+  stray = let R = off_phase 4 in record { len = R.len; period = R.period; limit = R.limit; stands = R.stands; null = λ q. eqb q 18432; sync = R.sync; header = header; refusal = R.refusal }
 
-  pub stray_null : items stray begin ≡ Frame 0 (header 0) ∷ Frame 6144 (header 6144) ∷ Lost 12288 2 ∷ Idle 18432 ∷ Lost 24576 2 ∷ Lost 30720 2 ∷ []
+  pub stray_null : items stray begin ≡ Frame 0 (header 0) ∷ Frame 6144 (header 6144) ∷ Lost 12288 Sync ∷ Idle 18432 ∷ Lost 24576 Sync ∷ Lost 30720 Sync ∷ []
   unfolding items items_of giving looks looks_in left look look_locked look_hunting item_at keeps live confirmed
   stray_null = refl
 
   -- SYNC WORDS THAT TAKE TURNS MUST BE SUPPOSED: four frames with one sync word and nothing else, in periods of four places so that it is short
   abbrev pub one_word : Judged
-  one_word = record { len = 16; period = 4; limit = 3; stands = λ q. eqb (q % 4) 0; null = λ q. false; sync = λ q. true; header = header; number = λ q. 2 }
+  one_word = record { len = 16; period = 4; limit = 3; stands = λ q. eqb (q % 4) 0; null = λ q. false; sync = λ q. true; header = header; refusal = λ q. Sync }
 
   pub never_confirmed : items one_word begin ≡ []
   unfolding items items_of giving looks looks_in left look look_locked look_hunting item_at keeps live confirmed
   never_confirmed = refl
 
   -- WITH LIMIT 1 one miss drops the lock, and of two intact frames at the end the first is handed out
-  pub one_miss : items (damaged 1 (λ q. eqb (q % 6144) 0) (λ q. false) (λ q. eqb (q / 6144 % 2) 0) 12388 2) begin ≡ Frame 0 (header 0) ∷ Frame 6144 (header 6144) ∷ Lost 12288 2 ∷ Frame 12388 (header 12388) ∷ Frame 18532 (header 18532) ∷ []
+  pub one_miss : items (damaged 1 (λ q. eqb (q % 6144) 0) (λ q. false) (λ q. eqb (q / 6144 % 2) 0) 12388 2) begin ≡ Frame 0 (header 0) ∷ Frame 6144 (header 6144) ∷ Lost 12288 Sync ∷ Frame 12388 (header 12388) ∷ Frame 18532 (header 18532) ∷ []
   unfolding items items_of giving looks looks_in left look look_locked look_hunting item_at keeps live confirmed
   one_miss = refl
 
@@ -106,10 +107,10 @@ module _ (header : ℕ → Header) where
         null = λ p. false;
         sync = λ p. eqb (p / 6144 % 2) 0;
         header = header;
-        number = λ p. 2;
+        refusal = λ p. Sync;
       }
 
-  pub listing : items four begin ≡ Frame 0 (header 0) ∷ Frame 6144 (header 6144) ∷ Lost 12288 2 ∷ Frame 18432 (header 18432) ∷ []
+  pub listing : items four begin ≡ Frame 0 (header 0) ∷ Frame 6144 (header 6144) ∷ Lost 12288 Sync ∷ Frame 18432 (header 18432) ∷ []
   unfolding items items_of giving looks looks_in left look look_locked look_hunting item_at keeps live confirmed
   listing = refl
 
@@ -119,7 +120,7 @@ module _ (header : ℕ → Header) where
 
   -- a record of one frame yields only done, at place 1
   abbrev pub one : Judged
-  one = record { len = 6144; period = 6144; limit = 3; stands = λ p. eqb p 0; null = λ p. false; sync = λ p. true; header = header; number = λ p. 2 }
+  one = record { len = 6144; period = 6144; limit = 3; stands = λ p. eqb p 0; null = λ p. false; sync = λ p. true; header = header; refusal = λ p. Sync }
 
   pub one_frame : calls one 2 begin ≡ Done 1 ∷ Done 1 ∷ []
   unfolding calls step_of step_in step_by looks looks_in left look look_locked look_hunting item_at keeps live confirmed

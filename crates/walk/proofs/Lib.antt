@@ -8,6 +8,7 @@ pub mod Laws
 pub mod Limits
 pub mod Looks
 pub mod Misses
+pub mod Numbered
 pub mod Onward
 pub mod OverBytes
 pub mod Real

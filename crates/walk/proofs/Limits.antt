@@ -1,19 +1,24 @@
 -- A walk's limit: which are allowed, the step with an allowed one and with another, and that no step changes it.
 -- Assumes nothing.
-use Prim.Native.Nat.{ℕ, ◌<◌}
+use Prim.Native.Nat.{ℕ}
 use mathlib.Core.Path.{◌≡◌, refl, sym, ap, ◌∙◌}
-use mathlib.Core.Bool.{Bool, true, false, and-false}
-use mathlib.Core.List.{List}
+use mathlib.Core.Bool.{Bool, true, false}
+use mathlib.Core.List.{List, []}
 use native.Mathlib.Omega.{arith}
 use lib.Dec.{leb}
-use borrow.Author.Tests.{le-leb, lt-leb, leb-true}
+use borrow.Author.Tests.{le-leb, leb-true}
+use Rattle.frame.specs.declared.Stream.{Stream}
+use Rattle.frame.specs.Answers.{table_by}
 use Rattle.octets.proofs.Deciding.{both}
-use Rattle.walk.specs.declared.Begun.TheVariants.{Walk, Refused}
+use Rattle.refusals.proofs.Numbers.{above_zero}
+use Rattle.std.specs.Prelude.{Ok, Err}
+use Rattle.refusals.specs.declared.Refusal.{Refusal}
+use Rattle.refusals.specs.Refusals.{refusal_number}
 use Rattle.walk.specs.declared.Moved.{Moved}
 use Rattle.walk.specs.declared.State.{State}
 use Rattle.walk.specs.declared.Step.{Step}
 use Rattle.walk.specs.Walk.{Position, Done, begin, step_of}
-use Rattle.walk.specs.Records.{judged, Allowed, allowed, limit_refusal_of, within, walk_values, Begins, step_with, step_at}
+use Rattle.walk.specs.Records.{judged, Allowed, allowed, limit_refusal_of, within, walk_values, Begins, table_of, step_with, step_at}
 use Rattle.walk.specs.StepClauses.{moved_with, moved_at}
 
 pub is_allowed : (m : ℕ) → Allowed m → allowed m ≡ true
@@ -37,13 +42,9 @@ by_limit m Q f g = go (allowed m) refl
 
 -- the number tells which
 module _ (m : ℕ) where
-  pub too_small : m < 1 → 27 ≡ limit_refusal_of m
-  unfolding limit_refusal_of allowed
-  too_small h = rw (lt-leb 1 m h)
-
-  pub too_large : 8 < m → 27 ≡ limit_refusal_of m
-  unfolding limit_refusal_of allowed
-  too_large h = rw (lt-leb m 8 h, and-false)
+  pub outside : (Allowed m → ⊥) → 27 ≡ limit_refusal_of m
+  unfolding limit_refusal_of
+  outside bad = by_limit m _ (λ e. absurd (bad (allowed_is m e))) (λ e. rw e)
 
   pub just_right : Allowed m → 0 ≡ limit_refusal_of m
   unfolding limit_refusal_of
@@ -57,11 +58,11 @@ module _ (m : ℕ) where
   number_outside f = by_limit m _ (λ e. absurd (f (sym (just_right (allowed_is m e))))) (λ e. e)
 
   -- what the code hands back
-  pub begun_walk : limit_refusal_of m ≡ 0 → (p : Position) → p ≡ begin → Begins m (Walk (record { limit = m; position = p }))
+  pub begun_walk : limit_refusal_of m ≡ 0 → (p : Position) → p ≡ begin → Begins m (Ok (record { limit = m; position = p }))
   begun_walk z p e = record { number = sym z; values = rw (number_allowed z) (ap (λ (q : Position). walk_values (within m q)) e) }
 
-  pub begun_refused : (n : ℕ) → n ≡ limit_refusal_of m → (n ≡ 0 → ⊥) → Begins m (Refused n)
-  begun_refused n e f = record { number = e; values = rw (number_outside (λ z. f (e ∙ z))) refl }
+  pub begun_refused : (n : Refusal) → refusal_number n ≡ limit_refusal_of m → Begins m (Err n)
+  begun_refused n e = record { number = e; values = rw (number_outside (λ z. above_zero n (e ∙ z))) refl }
 
 module _ (bytes : List ℕ) where
   pub step_is : (m : ℕ) → allowed m ≡ true → (p : Position) → step_at bytes (within m p) ≡ step_with bytes (step_of (judged m bytes) p).item (within m (step_of (judged m bytes) p).walk)
@@ -78,8 +79,10 @@ module _ (bytes : List ℕ) where
   limit_kept s = by_limit s.limit _ (λ e. rw (step_is s.limit e s.position)) (λ e. rw (step_outside s e))
 
   -- what the code hands back
-  pub outside_step : (s : State) (n : ℕ) → n ≡ limit_refusal_of s.limit → (n ≡ 0 → ⊥) → step_with bytes (Done s.position.place) s ≡ step_at bytes s
-  outside_step s n e f = sym (step_outside s (number_outside s.limit (λ z. f (e ∙ z))))
+  pub outside_step : (s : State) (n : ℕ) → n ≡ limit_refusal_of s.limit → (n ≡ 0 → ⊥) → (t : List Stream) → t ≡ table_by [] → ◌≡◌ {A = Step} (record { item = Done s.position.place; table = t; walk = s }) (step_at bytes s)
+  unfolding step_with table_of
+  outside_step s n e f t q =
+      ap (λ (x : List Stream). record { item = Done s.position.place; table = x; walk = s }) q ∙ sym (step_outside s (number_outside s.limit (λ z. f (e ∙ z))))
 
   pub inside_step : (s : State) (n : ℕ) → n ≡ limit_refusal_of s.limit → n ≡ 0 → (r : Moved) → r ≡ moved_at s.limit bytes s.position → ◌≡◌ {A = Step} (record { item = r.item; table = r.table; walk = record { limit = s.limit; position = r.position } }) (step_at bytes s)
   unfolding step_with moved_at moved_with

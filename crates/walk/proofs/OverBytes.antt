@@ -13,6 +13,7 @@ use Rattle.frame.specs.declared.Header.{Header}
 use Rattle.octets.specs.Choice.{pick}
 use Rattle.frame.specs.Rules.{refusal_of, Acceptable, NullTransmission}
 use Rattle.frame.proofs.Accepting.{accepted, acceptable, null_transmission, refused_null}
+use Rattle.refusals.specs.Refusals.{refusal_by}
 use Rattle.walk.specs.Walk.{Judged, Fair, Position, Item, Frame, Lost, Idle, Done, Stepped, frame_at, item_at, items, rest, step_of, calls, locked, begin}
 use Rattle.walk.specs.ItemValues.{place_of}
 use Rattle.walk.specs.AnyJudging.{Ends, since, frames, periods, Unbroken}
@@ -118,7 +119,7 @@ module _ (limit : ℕ) (bytes : List ℕ) where
   unfolding item_at judged period_out table_of
   period_out_lem p = go (eqb (refusal_of (part bytes p)) 0) (eqb (refusal_of (part bytes p)) 4)
     where
-      go : (a b : Bool) → with_table (pick a (frame_at (judged limit bytes) p) (pick b (Idle p) (Lost p (refusal_of (part bytes p))))) ≡ pick a (frame_out bytes p) (pick b (idle_out p) (lost_out bytes p))
+      go : (a b : Bool) → with_table (pick a (frame_at (judged limit bytes) p) (pick b (Idle p) (Lost p (refusal_by (refusal_of (part bytes p)))))) ≡ pick a (frame_out bytes p) (pick b (idle_out p) (lost_out bytes p))
       go true b = refl
       go false true = refl
       go false false = refl

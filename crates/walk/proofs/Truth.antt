@@ -8,13 +8,16 @@ use Prim.Native.Nat.{ℕ, suc, ◌+◌, ◌≤◌, ◌<◌}
 use native.Mathlib.Omega.{arith}
 use lib.Dec.{lit<, leb}
 use borrow.Author.Tests.{leb-true, leb-false, eqb-true, eqb-false}
-use Rattle.frame.specs.declared.Answer.TheVariants.{Accepted}
+use Rattle.std.specs.Prelude.{Ok}
 use Rattle.frame.specs.declared.Header.{Header}
 use Rattle.frame.specs.Rules.{refusal_of}
 use Rattle.frame.specs.Answers.{header_values, fields_of}
 use Rattle.frame.proofs.Accepting.{acceptable, null_transmission}
 use Rattle.frame.proofs.Fixed.{answer_fixed}
 use Rattle.frame.proofs.Headers.{header_values_lem}
+use Rattle.refusals.specs.declared.Refusal.{Refusal}
+use Rattle.refusals.specs.Refusals.{refusal_number}
+use Rattle.refusals.proofs.Numbers.{above_zero, number_fixed}
 use Rattle.walk.specs.Walk.{Judged, Position, Item, Frame, Lost, Idle, Done, Look, Stepped, item_at, keeps, live, look, locked, hunting, step_by, step_of}
 use Rattle.walk.specs.ItemValues.{frame_kind, lost_kind, idle_kind, done_kind, kind_of, item_values}
 use Rattle.walk.specs.declared.Moved.{Moved}
@@ -25,6 +28,7 @@ use Rattle.walk.specs.Truth.{Over, ItemTrue, StepTrue}
 use Rattle.walk.proofs.ByRules.{live_fits, by_item, by_rules, confirmed_stands}
 use Rattle.walk.proofs.Looks.{step_dead, step_live, walk_ind}
 use Rattle.walk.proofs.Limits.{allowed_is, not-allowed, by_limit, step_is, step_outside}
+use Rattle.walk.proofs.Numbered.{refusal_told}
 use Rattle.walk.proofs.Stepping.{over_done}
 
 -- over any judging
@@ -46,7 +50,7 @@ module _ (R : Judged) (positive : 0 < R.period) where
   -- the item and the walk that a step from s hands back
   abbrev Holds : Position → Item → Position → Type 0
   Holds s (Frame p h) t = (p + R.period ≤ R.len) × (R.stands p ≡ true) × (h ≡ R.header p) × (t ≡ locked (p + R.period) 0)
-  Holds s (Lost p n) t = (p + R.period ≤ R.len) × (R.stands p ≡ false) × (R.null p ≡ false) × (n ≡ R.number p)
+  Holds s (Lost p n) t = (p + R.period ≤ R.len) × (R.stands p ≡ false) × (R.null p ≡ false) × (n ≡ R.refusal p)
   Holds s (Idle p) t = (p + R.period ≤ R.len) × (R.null p ≡ true) × (t ≡ locked (p + R.period) 0)
   Holds s (Done p) t = (t.place ≡ p) × (live R t ≡ false) × ((t ≡ s) ⊎ (p + R.period ≡ suc R.len))
 
@@ -101,7 +105,8 @@ module _ (bytes : List ℕ) where
       go (Frame p h) t (room, e, q, l) =
           record { fits = room; acceptable = acceptable (part bytes p) (eqb-true (refusal_of (part bytes p)) 0 e); header = q; onward = ap (within s.limit) l }
       go (Lost p n) t (room, e, d, q) =
-          record { fits = room; number = q; refused = λ z. eqb-false (refusal_of (part bytes p)) 0 e (sym q ∙ z); carrying = λ z. eqb-false (refusal_of (part bytes p)) 4 d (sym q ∙ z) }
+          let number : refusal_number n ≡ refusal_of (part bytes p) = ap refusal_number q ∙ refusal_told (part bytes p) (eqb-false (refusal_of (part bytes p)) 0 e) in
+          record { fits = room; number = number; refused = above_zero n; carrying = λ z. eqb-false (refusal_of (part bytes p)) 4 d (sym number ∙ z) }
       go (Idle p) t (room, e, l) = record { fits = room; null = null_transmission (part bytes p) (eqb-true (refusal_of (part bytes p)) 4 e); onward = ap (within s.limit) l }
       go (Done p) t (q, e, f) = record { place = q; over = inr (over R (lit< tt) t e); first = ⊎_elim (λ w. inl (ap (within s.limit) w)) (λ w. inr (omega arith)) f }
 
@@ -129,7 +134,7 @@ module _ (bytes : List ℕ) where
     unfolding item_values
     frame_values p h e = let t = said (Frame p h) e in ap (λ (vs : List ℕ). frame_kind ∷ p ∷ vs) (ap header_values t.header ∙ header_values_lem (part bytes p) t.acceptable)
 
-    pub lost_values : (p n : ℕ) → (step_at bytes s).item ≡ Lost p n → item_values (Lost p n) ≡ lost_kind ∷ p ∷ refusal_of (part bytes p) ∷ []
+    pub lost_values : (p : ℕ) (n : Refusal) → (step_at bytes s).item ≡ Lost p n → item_values (Lost p n) ≡ lost_kind ∷ p ∷ refusal_of (part bytes p) ∷ []
     unfolding item_values
     lost_values p n e = ap (λ (v : ℕ). lost_kind ∷ p ∷ v ∷ []) (said (Lost p n) e).number
 
@@ -152,10 +157,13 @@ unfolding item_values
 item_fixed (Frame p h) (Frame q k) e =
     let a : p ≡ q = cc in
     let v : header_values h ≡ header_values k = cc in
-    let b = answer_fixed (Accepted h) (Accepted k) refl v in
+    let b = answer_fixed (Ok h) (Ok k) refl v in
     let c : h ≡ k = cc in
     λ i. Frame (a i) (c i)
-item_fixed (Lost p m) (Lost q n) e = cc
+item_fixed (Lost p m) (Lost q n) e =
+    let a : p ≡ q = cc in
+    let b = number_fixed m n (cc) in
+    λ i. Lost (a i) (b i)
 item_fixed (Idle p) (Idle q) e = cc
 item_fixed (Done p) (Done q) e = cc
 item_fixed (Frame p h) (Lost q n) e = absurd (clash (Frame p h) (Lost q n) e (λ z. omega arith))

@@ -3,6 +3,7 @@
 -- Assumes nothing.
 use Rattle.std.specs.Prelude.{not, List, [], ◌∷◌, ◌⊎◌, ◌≡◌, ℕ, zero, suc, ◌+◌, ◌*◌, ◌≤◌, ◌<◌, eqb, leb, length}
 use Rattle.frame.specs.declared.Stream.{Stream}
+use Rattle.refusals.specs.Refusals.{refusal_by}
 use Rattle.octets.specs.Choice.{pick}
 use Rattle.frame.specs.Frame.{streams_of}
 use Rattle.frame.specs.Rules.{refusal_of, Acceptable, NullTransmission}
@@ -42,9 +43,9 @@ out_of r = record { item = r.item; table = r.table }
 abbrev pub frame_out : List ℕ → ℕ → Out
 frame_out bytes p = record { item = frame_in bytes p; table = table_by (streams_of (part bytes p)) }
 
--- a lost mark, with the refusal number at p and the zero table
+-- a lost mark, with the refusal at p, which has the number there (`Numbered.refusal_told`), and the zero table
 abbrev pub lost_out : List ℕ → ℕ → Out
-lost_out bytes p = record { item = Lost p (refusal_of (part bytes p)); table = table_by [] }
+lost_out bytes p = record { item = Lost p (refusal_by (refusal_of (part bytes p))); table = table_by [] }
 
 -- an idle item, with the zero table
 abbrev pub idle_out : ℕ → Out

@@ -2,6 +2,7 @@
 -- Assumes nothing.
 use Rattle.std.specs.Prelude.{List, [], ◌∷◌, ℕ}
 use Rattle.frame.specs.Answers.{header_values}
+use Rattle.refusals.specs.Refusals.{refusal_number}
 use Rattle.walk.specs.declared.Item.{Item}
 use Rattle.walk.specs.declared.Item.TheVariants.{Frame, Lost, Idle, Done}
 
@@ -33,14 +34,14 @@ place_of (Done p) = p
 -- the refusal number of its place: a lost mark's, 4 of an idle item, 0 of a frame; and 0 of done
 abbrev pub number_of : Item → ℕ
 number_of (Frame p h) = 0
-number_of (Lost p n) = n
+number_of (Lost p n) = refusal_number n
 number_of (Idle p) = 4
 number_of (Done p) = 0
 
 -- what it holds: a frame's header, a lost mark's refusal number, the number 4
 abbrev pub held_in : Item → List ℕ
 held_in (Frame p h) = header_values h
-held_in (Lost p n) = n ∷ []
+held_in (Lost p n) = refusal_number n ∷ []
 held_in (Idle p) = 4 ∷ []
 held_in (Done p) = []
 

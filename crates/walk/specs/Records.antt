@@ -1,22 +1,22 @@
 -- The walk over a record of bytes: its places are judged by the reading, and its items hold what the reading gives there.
 -- Assumes nothing.
-use Rattle.std.specs.Prelude.{Bool, not, ◌&&◌, List, [], ◌∷◌, ◌≡◌, ℕ, zero, suc, ◌≤◌, eqb, leb, length}
+use Rattle.std.specs.Prelude.{Bool, not, ◌&&◌, List, [], ◌∷◌, ◌≡◌, ℕ, zero, suc, ◌≤◌, eqb, leb, length, Result, Ok, Err}
 use Rattle.frame.specs.declared.Stream.{Stream}
 use Rattle.frame.specs.Frame.{streams_of}
 use Rattle.frame.specs.Rules.{◌when◌, first, refusal_of}
+use Rattle.refusals.specs.declared.Refusal.{Refusal}
+use Rattle.refusals.specs.Refusals.{refusal_by, outcome_number}
 use Rattle.octets.specs.Choice.{pick}
 use Rattle.frame.specs.Answers.{digit, table_by, header_for}
 pub use Rattle.periods.specs.Periods.{part, fsync1_at, NoneStands}
 use Rattle.walk.specs.declared.Item.{Item}
 use Rattle.walk.specs.declared.Item.TheVariants.{Frame, Lost, Idle, Done}
-use Rattle.walk.specs.declared.Begun.{Begun}
-use Rattle.walk.specs.declared.Begun.TheVariants.{Walk, Refused}
 use Rattle.walk.specs.declared.Position.{Position}
 use Rattle.walk.specs.declared.State.{State}
 use Rattle.walk.specs.declared.Step.{Step}
 use Rattle.walk.specs.Walk.{Judged, begin, step_of}
 
--- a place stands if the 6,144 bytes from it are accepted by the reading, and is a null transmission if they are refused with 4; its header and refusal number are the reading's
+-- a place stands if the 6,144 bytes from it are accepted by the reading, and is a null transmission if they are refused with 4; its header and refusal are the reading's
 unfoldable pub judged : ℕ → List ℕ → Judged
 judged limit bytes =
     record {
@@ -27,7 +27,7 @@ judged limit bytes =
       null = λ p. eqb (refusal_of (part bytes p)) 4;
       sync = fsync1_at bytes;
       header = λ p. header_for (part bytes p);
-      number = λ p. refusal_of (part bytes p);
+      refusal = λ p. refusal_by (refusal_of (part bytes p));
     }
 
 -- the frame at a place, with the header that the reading gives there
@@ -65,18 +65,14 @@ start m = within m begin
 abbrev pub walk_values : State → List ℕ
 walk_values s = s.limit ∷ s.position.place ∷ s.position.misses ∷ digit s.position.lock ∷ []
 
--- of what beginning a walk hands back its number, 0 for a walk, and its values, none for refused
-abbrev pub begun_number : Begun → ℕ
-begun_number (Walk s) = 0
-begun_number (Refused n) = n
-
-abbrev pub begun_values : Begun → List ℕ
-begun_values (Walk s) = walk_values s
-begun_values (Refused n) = []
+-- of what beginning a walk hands back its values, none for refused
+abbrev pub begun_values : Result State Refusal → List ℕ
+begun_values (Ok s) = walk_values s
+begun_values (Err n) = []
 
 -- what beginning a walk with limit m hands back
-pub record Begins (m : ℕ) (r : Begun) : Type 0 where
-  pub number : begun_number r ≡ limit_refusal_of m
+pub record Begins (m : ℕ) (r : Result State Refusal) : Type 0 where
+  pub number : outcome_number r ≡ limit_refusal_of m
   pub values : begun_values r ≡ pick (allowed m) (walk_values (start m)) []
 
 -- what a step hands back: the item, its table, the advanced walk

@@ -5,6 +5,8 @@ use Rattle.std.specs.Prelude.{true, List, [], ◌∷◌, ◌⊎◌, ◌≡◌, �
 use Rattle.frame.specs.declared.Header.{Header}
 use Rattle.frame.specs.Rules.{refusal_of, Acceptable, NullTransmission}
 use Rattle.frame.specs.Answers.{header_for}
+use Rattle.refusals.specs.declared.Refusal.{Refusal}
+use Rattle.refusals.specs.Refusals.{refusal_number}
 use Rattle.walk.specs.declared.Item.{Item}
 use Rattle.walk.specs.declared.Item.TheVariants.{Frame, Lost, Idle, Done}
 use Rattle.walk.specs.declared.State.{State}
@@ -26,12 +28,12 @@ pub record IdleTrue (m : ℕ) (bytes : List ℕ) (p : ℕ) (t : State) : Type 0 
   pub null : NullTransmission (part bytes p)
   pub onward : t ≡ within m (locked (p + 6144) 0)
 
--- a lost mark with the number n is handed out at p
-pub record LostTrue (bytes : List ℕ) (p n : ℕ) : Type 0 where
+-- a lost mark with the refusal n is handed out at p
+pub record LostTrue (bytes : List ℕ) (p : ℕ) (n : Refusal) : Type 0 where
   pub fits : p + 6144 ≤ length bytes
-  pub number : n ≡ refusal_of (part bytes p)
-  pub refused : n ≡ 0 → ⊥
-  pub carrying : n ≡ 4 → ⊥
+  pub number : refusal_number n ≡ refusal_of (part bytes p)
+  pub refused : refusal_number n ≡ 0 → ⊥
+  pub carrying : refusal_number n ≡ 4 → ⊥
 
 -- the walk s can go no further: its limit is outside 1 to 8, from its place on a period does not exist, or it is in lock with its misses spent
 abbrev pub Over : List ℕ → State → Type 0

@@ -3,12 +3,13 @@
 use Rattle.std.specs.Prelude.{ℕ, zero, suc, ◌+◌, ◌-◌, ◌<◌, Bool, true, false, not, ◌&&◌, ◌||◌, List, [], ◌∷◌, leb, ltb}
 use Rattle.std.proofs.Math.Option.{Option, none, some}
 use Rattle.octets.specs.Choice.{pick}
+use Rattle.refusals.specs.declared.Refusal.{Refusal}
 use Rattle.frame.specs.declared.Header.{Header}
 pub use Rattle.walk.specs.declared.Item.{Item}
 pub use Rattle.walk.specs.declared.Item.TheVariants.{Frame, Lost, Idle, Done}
 pub use Rattle.walk.specs.declared.Position.{Position}
 
--- What the walk goes by: whether a place stands, whether it reads as a null transmission, its sync word, the header that its reading gives, its refusal number. They are asked only of places whose `period` bytes exist.
+-- What the walk goes by: whether a place stands, whether it reads as a null transmission, its sync word, the header that its reading gives, its refusal. They are asked only of places whose `period` bytes exist.
 pub record Judged : Type 0 where
   pub len : ℕ
   pub period : ℕ
@@ -17,7 +18,7 @@ pub record Judged : Type 0 where
   pub null : ℕ → Bool
   pub sync : ℕ → Bool
   pub header : ℕ → Header
-  pub number : ℕ → ℕ
+  pub refusal : ℕ → Refusal
 
 -- what the walk's laws suppose of it
 pub record Fair (R : Judged) : Type 0 where
@@ -67,7 +68,7 @@ frame_at R p = Frame p (R.header p)
 
 -- what a place gives the walk in lock
 unfoldable pub item_at : Judged → ℕ → Item
-item_at R p = pick (R.stands p) (frame_at R p) (pick (R.null p) (Idle p) (Lost p (R.number p)))
+item_at R p = pick (R.stands p) (frame_at R p) (pick (R.null p) (Idle p) (Lost p (R.refusal p)))
 
 -- whether it keeps the lock, so that the misses are cleared
 unfoldable pub keeps : Judged → ℕ → Bool

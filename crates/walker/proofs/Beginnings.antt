@@ -2,42 +2,40 @@
 -- Assumes nothing.
 use mathlib.Core.Bool.{false}
 use mathlib.Core.List.{List}
-use mathlib.Core.Path.{◌≡◌, refl, sym, ap, ◌∙◌}
+use mathlib.Core.Path.{◌≡◌, refl, ap, ◌∙◌}
 use Prim.Native.Nat.{ℕ, ◌-◌}
 use native.Mathlib.Omega.{arith}
 use lib.ListN.{length, take, drop}
-use Rattle.walk.specs.declared.Begun.{Begun}
-use Rattle.walk.specs.declared.Begun.TheVariants.{Walk, Refused}
+use Rattle.std.specs.Prelude.{Ok, Err}
+use Rattle.refusals.specs.declared.Refusal.{Refusal}
+use Rattle.refusals.specs.Refusals.{refusal_number}
+use Rattle.refusals.proofs.Numbers.{above_zero}
+use Rattle.walk.specs.declared.Position.{Position}
+use Rattle.walk.specs.Walk.{hunting}
 use Rattle.walk.specs.declared.State.{State}
 use Rattle.walk.specs.declared.Item.TheVariants.{Done}
-use Rattle.walk.specs.Records.{allowed, limit_refusal_of, start, Begins, step_with, step_at}
+use Rattle.walk.specs.Records.{allowed, limit_refusal_of, within, start, Begins, step_with, step_at}
 use Rattle.walk.proofs.Beginning.{is_begun, is_refused}
-use Rattle.walk.proofs.Limits.{allowed_is, just_right, number_allowed, number_outside, step_outside}
+use Rattle.walk.proofs.Limits.{number_allowed, number_outside, step_outside}
 use Rattle.walker.specs.Advance.{no_part, held_part, start_of}
-use Rattle.walker.specs.NthClauses.{beginning}
-use Rattle.walker.specs.declared.Beginning.{Beginning}
 
-module _ (m : ℕ) (r : Begun) (b : Begins m r) where
-  pub begun_state : (s : State) → r ≡ Walk s → ◌≡◌ {A = Beginning} (record { number = 0; state = s }) (beginning m)
+module _ (m : ℕ) where
+  pub begun_state : (s : State) → Begins m (Ok s) → s ≡ start_of m
   unfolding start_of
-  begun_state s q =
-      let (d, x) = is_begun m r b s q in
-      rw d (λ i. record { number = just_right m (allowed_is m d) i; state = x i })
+  begun_state s b = let (d, x) = is_begun m (Ok s) b s refl in rw d x
 
-  pub begun_outside : (n : ℕ) → r ≡ Refused n → ◌≡◌ {A = Beginning} (record { number = n; state = start 0 }) (beginning m)
+  pub begun_outside : (n : Refusal) → Begins m (Err n) → (p : Position) → p ≡ hunting 0 0 → within 0 p ≡ start_of m
   unfolding start_of
-  begun_outside n q =
-      let (d, x) = is_refused m r b n q in
-      rw d (λ i. record { number = x i; state = start 0 })
+  begun_outside n b p e = let (d, x) = is_refused m (Err n) b n refl in rw (d, e)
 
-module _ (m : ℕ) (bytes : List ℕ) (n : ℕ) (e : n ≡ limit_refusal_of m) where
-  pub held_whole : n ≡ 0 → held_part m bytes ≡ record { start = 0; len = length bytes }
+module _ (m : ℕ) (bytes : List ℕ) where
+  pub held_whole : limit_refusal_of m ≡ 0 → held_part m bytes ≡ record { start = 0; len = length bytes }
   unfolding held_part
-  held_whole z = rw (number_allowed m (sym e ∙ z))
+  held_whole z = rw (number_allowed m z)
 
-  pub held_none : (n ≡ 0 → ⊥) → held_part m bytes ≡ no_part
+  pub held_none : (n : Refusal) → refusal_number n ≡ limit_refusal_of m → held_part m bytes ≡ no_part
   unfolding held_part
-  held_none f = rw (number_outside m (λ z. f (e ∙ z)))
+  held_none n e = rw (number_outside m (λ z. above_zero n (e ∙ z)))
 
 -- the whole, as a part
 pub whole_part : (bytes : List ℕ) → take (length bytes - 0) (drop 0 bytes) ≡ take (length bytes) (drop 0 bytes)

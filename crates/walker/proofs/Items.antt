@@ -59,14 +59,14 @@ done_on bytes (suc m) s p e =
     let same = said_again bytes s p e in
     done_on bytes m (step_at bytes s).walk p (ap (λ (x : Step). x.item) same ∙ e) ∙ same
 
-pub nth_item : (m : ℕ) (bytes : List ℕ) (n : ℕ) → (nth_of m bytes n).step.item ≡ item_of m bytes n
+pub nth_item : (m : ℕ) (bytes : List ℕ) (n : ℕ) → (nth_of m bytes n).item ≡ item_of m bytes n
 unfolding judged item_of start_of step_with
 nth_item m bytes n = by_limit m _ inside outside
   where
     R : Judged
     R = judged m bytes
 
-    inside : allowed m ≡ true → (nth_of m bytes n).step.item ≡ item_of m bytes n
+    inside : allowed m ≡ true → (nth_of m bytes n).item ≡ item_of m bytes n
     inside e =
         let d = Done (rest R begin).place in
         rw e
@@ -74,7 +74,7 @@ nth_item m bytes n = by_limit m _ inside outside
         ∙ ap (λ (l : List Item). get_or l n d) (calls_items R (lit< tt) begin (suc n))
         ∙ padded (items R begin) (suc n) n d)
 
-    outside : allowed m ≡ false → (nth_of m bytes n).step.item ≡ item_of m bytes n
+    outside : allowed m ≡ false → (nth_of m bytes n).item ≡ item_of m bytes n
     outside e =
         let d = refused_done m e bytes in
         ap (λ (r : Step). r.item) (done_on bytes n (start_of m) 0 (ap (λ (r : Step). r.item) d) ∙ d) ∙ (rw e)

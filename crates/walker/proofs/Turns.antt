@@ -1,10 +1,11 @@
 -- What a turn of the walk to the n-th step knows: where it ends, and that one step less is left where it does not.
 -- Assumes nothing.
-use mathlib.Core.Path.{◌≡◌, sym, ap}
+use mathlib.Core.Path.{◌≡◌, refl, sym, ap}
 use mathlib.Core.Bool.{true, false}
 use mathlib.Core.List.{List}
 use Prim.Native.Nat.{ℕ, zero, suc, ◌-◌, ◌≤◌}
 use native.Mathlib.Omega.{arith}
+use lib.Dec.{eqb}
 use borrow.Author.Tests.{eqb-true}
 use Rattle.octets.proofs.Deciding.{clash}
 use Rattle.walk.specs.declared.Item.{Item}
@@ -13,6 +14,14 @@ use Rattle.walk.specs.declared.State.{State}
 use Rattle.walk.specs.Records.{step_at, state_after}
 use Rattle.walker.specs.NthClauses.{ends_at}
 use Rattle.walker.proofs.Items.{done_on}
+
+-- unless done is said it ends with the last step
+pub ends_not_done : (m : ℕ) (x : Item) → ((p : ℕ) → x ≡ Done p → ⊥) → eqb m 0 ≡ ends_at m x
+unfolding ends_at
+ends_not_done m (Frame p h) f = refl
+ends_not_done m (Lost p n) f = refl
+ends_not_done m (Idle p) f = refl
+ends_not_done m (Done p) f = absurd (f p refl)
 
 -- where it ends, no step is left, or done is said: the step is that of all of them
 pub arrived : (bytes : List ℕ) (m : ℕ) (t : State) (x : Item) → (step_at bytes t).item ≡ x → ends_at m x ≡ true → step_at bytes t ≡ step_at bytes (state_after bytes m t)

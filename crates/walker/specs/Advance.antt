@@ -2,6 +2,7 @@
 -- Assumes nothing.
 use Rattle.std.specs.Prelude.{List, ◌≡◌, ℕ, leb, length, get_or}
 use Rattle.std.specs.Borrow.{Bor}
+use Rattle.refusals.specs.Refusals.{outcome_number}
 use Rattle.frame.specs.declared.Span.{Span}
 use Rattle.octets.specs.Choice.{pick}
 use Rattle.frame.specs.Answers.{PartAt}
@@ -43,9 +44,9 @@ held_part m bytes = pick (allowed m) (record { start = 0; len = length bytes }) 
 unfoldable pub start_of : ℕ → State
 start_of m = pick (allowed m) (start m) (start 0)
 
--- the number, and the walk that holds the part s
-abbrev pub started : ℕ → Bor (List ℕ) → Started
-started m s = record { number = limit_refusal_of m; walk = record { «record» = s; state = start_of m } }
+-- the walk begun with limit m: the outcome's number, and the walk's state
+abbrev pub Starts : ℕ → Started → Type 0
+Starts m r = (outcome_number r.outcome ≡ limit_refusal_of m) × (r.walk.state ≡ start_of m)
 
 -- what the walk finds from where it stands
 abbrev pub found : Walk → Step
@@ -55,9 +56,13 @@ found w = step_at w.«record».now w.state
 abbrev pub advanced : Walk → Bor (List ℕ) → Advanced
 advanced w f = record { item = (found w).item; table = (found w).table; frame = f; walk = record { «record» = w.«record»; state = (found w).walk } }
 
--- the number, and what the step after n steps from the beginning hands back
-abbrev pub nth_of : ℕ → List ℕ → ℕ → Reached
-nth_of m bytes n = record { number = limit_refusal_of m; step = step_at bytes (state_after bytes n (start_of m)) }
+-- what the step after n steps from the beginning hands back
+abbrev pub nth_of : ℕ → List ℕ → ℕ → Step
+nth_of m bytes n = step_at bytes (state_after bytes n (start_of m))
+
+-- the outcome's number, and that step
+abbrev pub Reaches : ℕ → List ℕ → ℕ → Reached → Type 0
+Reaches m bytes n r = (outcome_number r.outcome ≡ limit_refusal_of m) × (r.step ≡ nth_of m bytes n)
 
 -- the n-th of the items that the record's walk with limit m hands out; after the last of them done, where the walk rests; where the limit is refused, done at place 0
 unfoldable pub item_of : ℕ → List ℕ → ℕ → Item

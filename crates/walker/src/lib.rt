@@ -5,11 +5,12 @@
 ghost use Rattle.std.specs.Prelude.{◌≡◌};
 ghost use Rattle.frame.specs.Answers.{PartAt};
 ghost use Rattle.walk.specs.Records.{step_at, state_after};
-ghost use Rattle.walker.specs.Advance.{period_part, held_part, FrameAt, started, advanced, nth_of, item_of};
-ghost use Rattle.walker.specs.NthClauses.{beginning, ends_at};
+ghost use Rattle.walker.specs.Advance.{period_part, held_part, start_of, FrameAt, Starts, advanced, Reaches, item_of};
+ghost use Rattle.walker.specs.NthClauses.{ends_at};
 
 use frame::Stream;
-use walk::{Begun, Item, Position, State, Step};
+use refusals::Refusal;
+use walk::{Item, Position, State, Step};
 
 #[derive(Clone, Copy)]
 pub struct Walk<'a> {
@@ -17,24 +18,19 @@ pub struct Walk<'a> {
     pub state: State,
 }
 
-// 0 and the walk begun; or 27 and a walk that holds no part of the record and is done at place 0.
+// The walk begun; or why it is not, and a walk that holds no part of the record and is done at place 0.
+// Not a Result of the walk: `Starts`, which `begin` promises, says what the walk beside a refusal is.
 #[derive(Clone, Copy)]
 pub struct Started<'a> {
-    pub number: u8,
+    pub outcome: Result<(), Refusal>,
     pub walk: Walk<'a>,
 }
 
-// The number and the state of a walk begun.
-#[derive(Clone, Copy)]
-struct Beginning {
-    number: u8,
-    state: State,
-}
-
-// 0 and what the n-th step hands back; or 27 and done, at place 0.
+// What the n-th step hands back; or why it does not, and done, at place 0.
+// Not a Result of the step: `nth` promises its item for every limit (`item_of`), done at place 0 where the limit is refused.
 #[derive(Clone, Copy)]
 pub struct Reached {
-    pub number: u8,
+    pub outcome: Result<(), Refusal>,
     pub step: Step,
 }
 
@@ -68,28 +64,19 @@ pub fn frame_of(record: &[u8], item: Item) -> &[u8]
 {
     match item {
         Item::Frame(p, _) => part_at(record, p),
-        Item::Lost(_, _) => &record[0..0],
-        Item::Idle(_) => &record[0..0],
-        Item::Done(_) => &record[0..0],
+        _ => &record[0..0],
     }
 }
 
 // Hunting at place 0, and done there where the limit is refused.
-fn beginning_of(limit: usize) -> Beginning
-    ensures { result ≡ beginning limit }
+fn start_of(limit: usize) -> State
+    ensures { result ≡ start_of limit }
 {
     match walk::begin(limit) {
-        Begun::Walk(state) => Beginning { number: 0, state },
-        Begun::Refused(number) => Beginning {
-            number,
-            state: State {
-                limit: 0,
-                position: Position {
-                    place: 0,
-                    misses: 0,
-                    lock: false,
-                },
-            },
+        Ok(state) => state,
+        Err(_) => State {
+            limit: 0,
+            position: Position::hunting(0, 0),
         },
     }
 }
@@ -98,24 +85,22 @@ fn beginning_of(limit: usize) -> Beginning
 fn held_part(record: &[u8], limit: usize) -> &[u8]
     ensures { PartAt «record».entry (held_part limit «record».now) result }
 {
-    if walk::limit_refusal(limit) != 0 {
-        return &record[0..0];
+    match walk::limit_refusal(limit) {
+        Ok(()) => &record[0..record.len()],
+        Err(_) => &record[0..0],
     }
-    let n = record.len();
-    &record[0..n]
 }
 
-// A walk over the record with a limit of misses. 27 for a limit outside 1 to 8.
+// A walk over the record with a limit of misses; a limit outside 1 to 8 is refused.
 pub fn begin<'a>(record: &'a [u8], limit: usize) -> Started<'a>
-    ensures { (result ≡ started limit result.walk.«record») × PartAt «record».entry (held_part limit «record».now) result.walk.«record» }
+    ensures { Starts limit result × PartAt «record».entry (held_part limit «record».now) result.walk.«record» }
 {
-    let b = beginning_of(limit);
     let part = held_part(record, limit);
     Started {
-        number: b.number,
+        outcome: walk::limit_refusal(limit),
         walk: Walk {
             record: part,
-            state: b.state,
+            state: start_of(limit),
         },
     }
 }
@@ -145,14 +130,13 @@ fn ends(left: usize, item: Item) -> bool
     ensures { result ≡ ends_at left item }
 {
     match item {
-        Item::Frame(_, _) => left == 0,
-        Item::Lost(_, _) => left == 0,
-        Item::Idle(_) => left == 0,
         Item::Done(_) => true,
+        _ => left == 0,
     }
 }
 
 // What the step after n steps from a state hands back. No step is taken after done, however large n is.
+// Not a `for`: the contract of `ends` alone says that the walk does not go on after done, of which what comes back cannot tell.
 fn nth_from(record: &[u8], state: State, n: usize) -> Step
     ensures { result ≡ step_at «record».now (state_after «record».now n state) }
 {
@@ -172,13 +156,12 @@ fn nth_from(record: &[u8], state: State, n: usize) -> Step
     }
 }
 
-// What the step after n steps hands back, from the beginning of the record: its item is the n-th of the record's walk. 27 for a limit outside 1 to 8.
+// What the step after n steps hands back, from the beginning of the record: its item is the n-th of the record's walk. A limit outside 1 to 8 is refused.
 pub fn nth(record: &[u8], limit: usize, n: usize) -> Reached
-    ensures { (result ≡ nth_of limit «record».now n) × (result.step.item ≡ item_of limit «record».now n) }
+    ensures { Reaches limit «record».now n result × (result.step.item ≡ item_of limit «record».now n) }
 {
-    let b = beginning_of(limit);
-    let number = b.number;
-    let state = b.state;
-    let step = nth_from(record, state, n);
-    Reached { number, step }
+    Reached {
+        outcome: walk::limit_refusal(limit),
+        step: nth_from(record, start_of(limit), n),
+    }
 }

@@ -4,7 +4,8 @@
 ghost use Rattle.controller.specs.Boundary.{Told};
 ghost use Rattle.walks.specs.WalkCalls.{walk_of, begun_bytes, state_refusal_of, Limited};
 
-use walk::{Position, State, Step};
+use refusals::Refusal;
+use walk::{Position, State};
 
 // A step of the walk whose state is in the lent bytes: they then hold the advanced walk and its item. Any bytes are taken.
 #[unsafe(no_mangle)]
@@ -12,16 +13,13 @@ pub extern "C" fn spindlewren_step(bytes: &[u8], walk: &mut [u8]) -> u8
     ensures { Told 23 (state_refusal_of walk.old) (walk_of bytes.now walk.old) walk.old walk.new result }
 {
     if walk.len() != 23 {
-        return 1;
+        return Refusal::Length.number();
     }
     if walk[9] > 1 {
-        return 12;
+        return Refusal::TooWide.number();
     }
-    let state = block::state_in(walk);
-    let step = state.step(bytes);
-    let item = step.item;
-    let next = step.walk;
-    block::put_item(walk, next, item);
+    let step = block::state_in(walk).step(bytes);
+    block::put_item(walk, step.walk, step.item);
     0
 }
 
@@ -30,18 +28,13 @@ pub extern "C" fn spindlewren_step(bytes: &[u8], walk: &mut [u8]) -> u8
 pub extern "C" fn spindlewren_begin(limit: usize, walk: &mut [u8]) -> u8
     ensures { Limited limit 23 (begun_bytes limit) walk.old walk.new result }
 {
-    let refusal = walk::limit_refusal(limit);
-    if refusal != 0 {
-        return refusal;
+    if let Err(refusal) = walk::limit_refusal(limit) {
+        return refusal.number();
     }
     if walk.len() != 23 {
-        return 1;
+        return Refusal::Length.number();
     }
-    let position = Position {
-        place: 0,
-        misses: 0,
-        lock: false,
-    };
+    let position = Position::hunting(0, 0);
     block::put_told(walk, State { limit, position }, 0, 0, 0, 0, 0);
     0
 }

@@ -1,4 +1,5 @@
 // The walk over a record, for C: the exports of the archive `walks`.
+// The exports stand here once more, since no crate can be built on a static library, and others are built on `walks`.
 #![tactic(auto)]
 
 ghost use Rattle.controller.specs.Boundary.{Told};

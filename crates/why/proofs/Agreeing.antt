@@ -9,6 +9,7 @@ use mathlib.Core.Logic.{◌⊎◌, inl, inr}
 use native.Mathlib.Omega.{arith}
 use lib.ListN.{length, replicate}
 use Rattle.walk.specs.declared.Item.{Item}
+use Rattle.refusals.specs.declared.Refusal.{Refusal}
 use Rattle.walk.specs.declared.Item.TheVariants.{Frame, Idle, Done, Lost as LostMark}
 use Rattle.walk.specs.declared.Position.{Position}
 use Rattle.walk.specs.declared.State.{State}
@@ -84,7 +85,7 @@ module _ (bytes : List ℕ) (limit place n : ℕ) (ok : allowed limit ≡ true) 
       from (inr m) = inr (here (Idle place) (λ e. omega arith) m)
 
   -- LOST exactly where they hand out a lost mark, with that number
-  pub lost_called : (k : ℕ) → (Applies bytes limit place (Lost k) → Memᴰ (LostMark place k) (items_at bytes n (start limit))) × (Memᴰ (LostMark place k) (items_at bytes n (start limit)) → Applies bytes limit place (Lost k))
+  pub lost_called : (k : Refusal) → (Applies bytes limit place (Lost k) → Memᴰ (LostMark place k) (items_at bytes n (start limit))) × (Memᴰ (LostMark place k) (items_at bytes n (start limit)) → Applies bytes limit place (Lost k))
   lost_called k = (λ a. there (LostMark place k) ((lost_is_mark bytes limit place k).0 a), λ m. (lost_is_mark bytes limit place k).1 (here (LostMark place k) (λ e. omega arith) m))
 
   -- STEPPED OVER from q exactly where a call hands out an item there, done left aside, and a walk in lock past the place

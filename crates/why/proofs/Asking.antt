@@ -2,15 +2,19 @@
 -- Assumes nothing.
 use Prim.Native.Nat.{ℕ, ◌+◌, ◌≤◌, ◌<◌}
 use mathlib.Core.Path.{◌≡◌, refl, sym, ap, subst, ◌∙◌}
-use mathlib.Core.Bool.{true}
+use mathlib.Core.Bool.{true, and-false}
 use mathlib.Core.List.{List, Memᴰ}
 use native.Mathlib.Omega.{arith}
+use lib.Dec.{leb}
 use lib.ListN.{length}
-use borrow.Author.Tests.{eq-eqb, ne_eqb, le-leb, lt-leb, lt-ltb, le-ltb}
+use borrow.Author.Tests.{eq-eqb, ne_eqb, le-leb, lt-ltb, le-ltb}
 use Rattle.octets.proofs.Deciding.{clash}
 use Rattle.frame.specs.Rules.{refusal_of}
-use Rattle.walk.specs.declared.Begun.{Begun}
-use Rattle.walk.specs.declared.Begun.TheVariants.{Walk, Refused as NotBegun}
+use Rattle.std.specs.Prelude.{Ok, Err}
+use Rattle.refusals.specs.declared.Refusal.{Refusal}
+use Rattle.refusals.specs.declared.Refusal.TheVariants.{PlaceOutside}
+use Rattle.refusals.specs.Refusals.{refusal_number}
+use Rattle.refusals.proofs.Numbers.{above_zero}
 use Rattle.walk.specs.declared.Item.{Item}
 use Rattle.walk.specs.declared.Position.{Position}
 use Rattle.walk.specs.declared.State.{State}
@@ -18,10 +22,11 @@ use Rattle.walk.specs.declared.Step.{Step}
 use Rattle.walk.specs.Walk.{looks, begin, step_of}
 use Rattle.walk.specs.Records.{part, judged, allowed, limit_refusal_of, within, start, Begins, step_with, step_at}
 use Rattle.walk.proofs.Beginning.{is_begun, is_refused}
+use Rattle.walk.proofs.Numbered.{refusal_is}
+use Rattle.walk.proofs.Stepping.{stands_whole}
 use Rattle.walk.proofs.Limits.{allowed_is, step_is}
 use Rattle.why.specs.declared.Reason.{Reason}
 use Rattle.why.specs.declared.Reason.TheVariants.{Refused, NotStanding, SameSync}
-use Rattle.why.specs.declared.Answer.TheVariants.{Because, Not}
 use Rattle.why.specs.declared.Found.{Found}
 use Rattle.why.specs.declared.Found.TheVariants.{Hunted, At, Later}
 use Rattle.why.specs.Why.{followed, Applies, why_refusal_of, Answers}
@@ -32,26 +37,20 @@ use Rattle.why.proofs.Reasons.{fair}
 use Rattle.why.proofs.Seeking.{Onto, True, widen, step_tells}
 
 -- ---- a place that was hunted over
-module _ (bytes : List ℕ) (limit p n : ℕ) (e : n ≡ refusal_of (part bytes p)) where
-  pub hunted_refused : (n ≡ 0 → ⊥) → Refused n ≡ hunted_for (judged limit bytes) p
+module _ (bytes : List ℕ) (limit p : ℕ) where
+  pub hunted_refused : (n : Refusal) → refusal_number n ≡ refusal_of (part bytes p) → Refused n ≡ hunted_for (judged limit bytes) p
   unfolding hunted_for judged
-  hunted_refused z = rw (ne_eqb (refusal_of (part bytes p)) 0 (λ q. z (e ∙ q)), e)
+  hunted_refused n e = rw (ne_eqb (refusal_of (part bytes p)) 0 (λ q. above_zero n (e ∙ q))) (ap (λ (r : Refusal). Refused r) (sym (refusal_is (part bytes p) n e)))
 
-  module _ (z : n ≡ 0) where
-    pub hunted_last : length bytes < p + 6144 + 6144 → NotStanding ≡ hunted_for (judged limit bytes) p
+  module _ (z : refusal_of (part bytes p) ≡ 0) where
+    pub hunted_alone : (refusal_of (part bytes (p + 6144)) ≡ 0 → ⊥) → NotStanding ≡ hunted_for (judged limit bytes) p
     unfolding hunted_for followed judged
-    hunted_last h = rw (eq-eqb (refusal_of (part bytes p)) 0 (sym e ∙ z), lt-leb (p + 6144 + 6144) (length bytes) h)
+    hunted_alone y = rw (eq-eqb (refusal_of (part bytes p)) 0 z, ne_eqb (refusal_of (part bytes (p + 6144))) 0 y, and-false (leb (p + 6144 + 6144) (length bytes)))
 
-    module _ (h : p + 6144 + 6144 ≤ length bytes) (m : ℕ) (d : m ≡ refusal_of (part bytes (p + 6144))) where
-      pub hunted_alone : (m ≡ 0 → ⊥) → NotStanding ≡ hunted_for (judged limit bytes) p
-      unfolding hunted_for followed judged
-      hunted_alone y =
-          rw (eq-eqb (refusal_of (part bytes p)) 0 (sym e ∙ z), le-leb (p + 6144 + 6144) (length bytes) h, ne_eqb (refusal_of (part bytes (p + 6144))) 0 (λ q. y (d ∙ q)))
-
-      pub hunted_same : m ≡ 0 → SameSync ≡ hunted_for (judged limit bytes) p
-      unfolding hunted_for followed judged
-      hunted_same y =
-          rw (eq-eqb (refusal_of (part bytes p)) 0 (sym e ∙ z), le-leb (p + 6144 + 6144) (length bytes) h, eq-eqb (refusal_of (part bytes (p + 6144))) 0 (sym d ∙ y))
+    pub hunted_same : refusal_of (part bytes (p + 6144)) ≡ 0 → SameSync ≡ hunted_for (judged limit bytes) p
+    unfolding hunted_for followed judged
+    hunted_same y =
+        rw (eq-eqb (refusal_of (part bytes p)) 0 z, le-leb (p + 6144 + 6144) (length bytes) (stands_whole bytes (p + 6144) y), eq-eqb (refusal_of (part bytes (p + 6144))) 0 y)
 
 -- ---- the walk with limit m up to the place p: it has come to s, not past the place
 pub record Reached (bytes : List ℕ) (m p : ℕ) (s : State) : Type 0 where
@@ -116,26 +115,25 @@ module _ (bytes : List ℕ) (m p : ℕ) (s : State) (o : Reached bytes m p s) (r
     goes_further q = (onto q).moves
 
 -- ---- the answer
-module _ (bytes : List ℕ) (limit place : ℕ) (b : Begun) (w : Begins limit b) where
-  pub not_begun : (n : ℕ) → b ≡ NotBegun n → Answers bytes limit place (Not n)
+module _ (bytes : List ℕ) (limit place : ℕ) where
+  pub not_begun : (n : Refusal) → Begins limit (Err n) → Answers bytes limit place (Err n)
   unfolding why_refusal_of limit_refusal_of
-  not_begun n q =
-      let (y, e) = is_refused limit b w n q in
-      let z : n ≡ 27 = e ∙ (rw y) in
-      refusing bytes limit place n (z ∙ (rw y)) (λ x. omega arith)
+  not_begun n w =
+      let (y, e) = is_refused limit (Err n) w n refl in
+      refusing bytes limit place n (e ∙ (rw y))
 
-  module _ (s : State) (q : b ≡ Walk s) where
+  module _ (s : State) (w : Begins limit (Ok s)) where
     begun : (allowed limit ≡ true) × (s ≡ start limit)
-    begun = is_begun limit b w s q
+    begun = is_begun limit (Ok s) w s refl
 
-    pub outside : length bytes < place + 6144 → Answers bytes limit place (Not 34)
+    pub outside : length bytes < place + 6144 → Answers bytes limit place (Err PlaceOutside)
     unfolding why_refusal_of
-    outside h = refusing bytes limit place 34 (rw (begun.0, lt-ltb (length bytes) (place + 6144) h)) (λ x. omega arith)
+    outside h = refusing bytes limit place PlaceOutside (rw (begun.0, lt-ltb (length bytes) (place + 6144) h))
 
     pub asked : place + 6144 ≤ length bytes → Asked bytes s place
     asked h = let e = begun.1 in record { patient = rw e begun.0; begins = ap (λ (t : State). t.position) e; room = h }
 
-    pub answered : place + 6144 ≤ length bytes → (r : Reason) → Applies bytes s.limit place r → Answers bytes limit place (Because r)
+    pub answered : place + 6144 ≤ length bytes → (r : Reason) → Applies bytes s.limit place r → Answers bytes limit place (Ok r)
     unfolding why_refusal_of
     answered h r a =
         because bytes limit place r (rw (begun.0, le-ltb (length bytes) (place + 6144) h)) (subst (λ (t : State). Applies bytes t.limit place r) begun.1 a)

@@ -15,6 +15,7 @@ use borrow.Author.Tests.{eq-eqb, ne_eqb}
 use Rattle.frame.specs.declared.Header.{Header}
 use Rattle.octets.specs.Choice.{pick}
 use Rattle.octets.proofs.Deciding.{clash}
+use Rattle.refusals.specs.declared.Refusal.{Refusal}
 use Rattle.walk.specs.declared.Item.{Item}
 use Rattle.walk.specs.declared.Item.TheVariants.{Frame, Idle, Done, Lost as LostMark}
 use Rattle.walk.specs.declared.Position.{Position}
@@ -27,48 +28,48 @@ use Rattle.why.specs.declared.Reason.TheVariants.{HandedOut, Lost, Refused, NotS
 use Rattle.why.specs.Why.{Come, HandedAt, HuntedOver, followed, AppliesIn, OutAt, LastBefore, Applies}
 use Rattle.why.proofs.Covers.{Covers, Fresh, one_cover, some_cover, gives_place, leaps, given, gives}
 
--- ---- one look, by what decides it: lock, whether the place stands, is a null transmission, is confirmed, is followed; its header and number
-abbrev gives_by : Bool → Bool → Bool → Bool → ℕ → Header → ℕ → Option Item
+-- ---- one look, by what decides it: lock, whether the place stands, is a null transmission, is confirmed, is followed; its header and refusal
+abbrev gives_by : Bool → Bool → Bool → Bool → ℕ → Header → Refusal → Option Item
 gives_by l a z c p h n = pick l (some (pick a (Frame p h) (pick z (Idle p) (LostMark p n)))) (pick c (some (Frame p h)) none)
 
-abbrev reason_by : Bool → Bool → Bool → Bool → Bool → ℕ → Reason
+abbrev reason_by : Bool → Bool → Bool → Bool → Bool → Refusal → Reason
 reason_by l a z c d n = pick l (pick a HandedOut (pick z HandedOut (Lost n))) (pick c HandedOut (pick a (pick d SameSync NotStanding) (Refused n)))
 
-frame_by : (l a z c d : Bool) (p : ℕ) (h : Header) (n q : ℕ) (g : Header) → gives_by l a z c p h n ≡ some (Frame q g) → HandedOut ≡ reason_by l a z c d n
+frame_by : (l a z c d : Bool) (p : ℕ) (h : Header) (n : Refusal) (q : ℕ) (g : Header) → gives_by l a z c p h n ≡ some (Frame q g) → HandedOut ≡ reason_by l a z c d n
 frame_by true true z c d p h n q g e = refl
 frame_by true false true c d p h n q g e = refl
 frame_by true false false c d p h n q g e = cc
 frame_by false a z true d p h n q g e = refl
 frame_by false a z false d p h n q g e = cc
 
-idle_by : (l a z c d : Bool) (p : ℕ) (h : Header) (n q : ℕ) → gives_by l a z c p h n ≡ some (Idle q) → HandedOut ≡ reason_by l a z c d n
+idle_by : (l a z c d : Bool) (p : ℕ) (h : Header) (n : Refusal) (q : ℕ) → gives_by l a z c p h n ≡ some (Idle q) → HandedOut ≡ reason_by l a z c d n
 idle_by true true z c d p h n q e = refl
 idle_by true false true c d p h n q e = refl
 idle_by true false false c d p h n q e = cc
 idle_by false a z true d p h n q e = refl
 idle_by false a z false d p h n q e = cc
 
-lost_by_lem : (l a z c d : Bool) (p : ℕ) (h : Header) (n q m : ℕ) → gives_by l a z c p h n ≡ some (LostMark q m) → Lost m ≡ reason_by l a z c d n
+lost_by_lem : (l a z c d : Bool) (p : ℕ) (h : Header) (n : Refusal) (q : ℕ) (m : Refusal) → gives_by l a z c p h n ≡ some (LostMark q m) → Lost m ≡ reason_by l a z c d n
 lost_by_lem true true z c d p h n q m e = cc
 lost_by_lem true false true c d p h n q m e = cc
 lost_by_lem true false false c d p h n q m e = cc
 lost_by_lem false a z true d p h n q m e = cc
 lost_by_lem false a z false d p h n q m e = cc
 
-silent_by : (l a z c : Bool) (p : ℕ) (h : Header) (n : ℕ) → gives_by l a z c p h n ≡ none → (l ≡ false) × (c ≡ false)
+silent_by : (l a z c : Bool) (p : ℕ) (h : Header) (n : Refusal) → gives_by l a z c p h n ≡ none → (l ≡ false) × (c ≡ false)
 silent_by true a z c p h n e = (cc, cc)
 silent_by false a z true p h n e = (refl, cc)
 silent_by false a z false p h n e = (refl, refl)
 
 -- the header is the reading's
-header_by : (l a z c : Bool) (p : ℕ) (h : Header) (n q : ℕ) (g : Header) → gives_by l a z c p h n ≡ some (Frame q g) → g ≡ h
+header_by : (l a z c : Bool) (p : ℕ) (h : Header) (n : Refusal) (q : ℕ) (g : Header) → gives_by l a z c p h n ≡ some (Frame q g) → g ≡ h
 header_by true true z c p h n q g e = cc
 header_by true false true c p h n q g e = cc
 header_by true false false c p h n q g e = cc
 header_by false a z true p h n q g e = cc
 header_by false a z false p h n q g e = cc
 
-no_such : (q : ℕ) (l a z c d : Bool) (n : ℕ) → SteppedOver q ≡ reason_by l a z c d n → ⊥
+no_such : (q : ℕ) (l a z c d : Bool) (n : Refusal) → SteppedOver q ≡ reason_by l a z c d n → ⊥
 no_such q true true z c d n e = let z : ◌≡◌ {A = ℕ} 0 1 = cc in omega arith
 no_such q true false true c d n e = let z : ◌≡◌ {A = ℕ} 0 1 = cc in omega arith
 no_such q true false false c d n e = let z : ◌≡◌ {A = ℕ} 0 1 = cc in omega arith
@@ -92,7 +93,7 @@ unconfirmed_same R p e = rw e (go (fits R (p + R.period)) (R.stands (p + R.perio
 
 module _ (R : Judged) where
   abbrev gives_at : Bool → Bool → Bool → Bool → ℕ → Option Item
-  gives_at l a z c p = gives_by l a z c p (R.header p) (R.number p)
+  gives_at l a z c p = gives_by l a z c p (R.header p) (R.refusal p)
 
   gives_is : (s : Position) → (look R s).gives ≡ gives_at s.lock (R.stands s.place) (R.null s.place) (confirmed R s.place) s.place
   unfolding look look_locked look_hunting item_at
@@ -107,33 +108,33 @@ module _ (R : Judged) where
       go p k false = hunts p k (confirmed R p)
 
   unfoldable pub here_for : Position → Reason
-  here_for s = reason_by s.lock (R.stands s.place) (R.null s.place) (confirmed R s.place) (followed R s.place) (R.number s.place)
+  here_for s = reason_by s.lock (R.stands s.place) (R.null s.place) (confirmed R s.place) (followed R s.place) (R.refusal s.place)
 
   module _ (s : Position) where
     frame_here : (q : ℕ) (g : Header) → (look R s).gives ≡ some (Frame q g) → HandedOut ≡ here_for s
     unfolding here_for
     frame_here q g e =
-        frame_by s.lock (R.stands s.place) (R.null s.place) (confirmed R s.place) (followed R s.place) s.place (R.header s.place) (R.number s.place) q g (sym (gives_is s) ∙ e)
+        frame_by s.lock (R.stands s.place) (R.null s.place) (confirmed R s.place) (followed R s.place) s.place (R.header s.place) (R.refusal s.place) q g (sym (gives_is s) ∙ e)
 
     idle_here : (q : ℕ) → (look R s).gives ≡ some (Idle q) → HandedOut ≡ here_for s
     unfolding here_for
     idle_here q e =
-        idle_by s.lock (R.stands s.place) (R.null s.place) (confirmed R s.place) (followed R s.place) s.place (R.header s.place) (R.number s.place) q (sym (gives_is s) ∙ e)
+        idle_by s.lock (R.stands s.place) (R.null s.place) (confirmed R s.place) (followed R s.place) s.place (R.header s.place) (R.refusal s.place) q (sym (gives_is s) ∙ e)
 
-    lost_here : (q n : ℕ) → (look R s).gives ≡ some (LostMark q n) → Lost n ≡ here_for s
+    lost_here : (q : ℕ) (n : Refusal) → (look R s).gives ≡ some (LostMark q n) → Lost n ≡ here_for s
     unfolding here_for
     lost_here q n e =
-        lost_by_lem s.lock (R.stands s.place) (R.null s.place) (confirmed R s.place) (followed R s.place) s.place (R.header s.place) (R.number s.place) q n (sym (gives_is s) ∙ e)
+        lost_by_lem s.lock (R.stands s.place) (R.null s.place) (confirmed R s.place) (followed R s.place) s.place (R.header s.place) (R.refusal s.place) q n (sym (gives_is s) ∙ e)
 
     pub silent_here : (look R s).gives ≡ none → (s.lock ≡ false) × (confirmed R s.place ≡ false)
-    silent_here e = silent_by s.lock (R.stands s.place) (R.null s.place) (confirmed R s.place) s.place (R.header s.place) (R.number s.place) (sym (gives_is s) ∙ e)
+    silent_here e = silent_by s.lock (R.stands s.place) (R.null s.place) (confirmed R s.place) s.place (R.header s.place) (R.refusal s.place) (sym (gives_is s) ∙ e)
 
     pub header_here : (q : ℕ) (g : Header) → (look R s).gives ≡ some (Frame q g) → g ≡ R.header s.place
-    header_here q g e = header_by s.lock (R.stands s.place) (R.null s.place) (confirmed R s.place) s.place (R.header s.place) (R.number s.place) q g (sym (gives_is s) ∙ e)
+    header_here q g e = header_by s.lock (R.stands s.place) (R.null s.place) (confirmed R s.place) s.place (R.header s.place) (R.refusal s.place) q g (sym (gives_is s) ∙ e)
 
     not-past : (q : ℕ) → SteppedOver q ≡ here_for s → ⊥
     unfolding here_for
-    not-past q e = no_such q s.lock (R.stands s.place) (R.null s.place) (confirmed R s.place) (followed R s.place) (R.number s.place) e
+    not-past q e = no_such q s.lock (R.stands s.place) (R.null s.place) (confirmed R s.place) (followed R s.place) (R.refusal s.place) e
 
   -- the reason for a place that the look in the state s covers
   unfoldable pub reason_for : ℕ → Position → Reason
@@ -192,12 +193,12 @@ module _ (R : Judged) (positive : 0 < R.period) (p : ℕ) (l : List Position) wh
       over : s.lock ≡ false → confirmed R s.place ≡ false → HuntedOver R p l
       over ex ec = record { state = s; come = come; hunts = ex; silent = gives_is R s ∙ (rw (ex, ec)) }
 
-      go : (x : Bool) → s.lock ≡ x → (a : Bool) → R.stands s.place ≡ a → (z : Bool) → R.null s.place ≡ z → (c : Bool) → confirmed R s.place ≡ c → (d : Bool) → followed R s.place ≡ d → AppliesIn R p l (reason_by x a z c d (R.number s.place))
+      go : (x : Bool) → s.lock ≡ x → (a : Bool) → R.stands s.place ≡ a → (z : Bool) → R.null s.place ≡ z → (c : Bool) → confirmed R s.place ≡ c → (d : Bool) → followed R s.place ≡ d → AppliesIn R p l (reason_by x a z c d (R.refusal s.place))
       go true ex true ea z ez c ec d ed = inl (out (frame_at R p) true true z c ex ea ez ec (ap (λ (q : ℕ). some (frame_at R q)) e))
       go true ex false ea true ez c ec d ed = inr (out (Idle p) true false true c ex ea ez ec (ap (λ (q : ℕ). some (Idle q)) e))
-      go true ex false ea false ez c ec d ed = out (LostMark p (R.number s.place)) true false false c ex ea ez ec (ap (λ (q : ℕ). some (LostMark q (R.number s.place))) e)
+      go true ex false ea false ez c ec d ed = out (LostMark p (R.refusal s.place)) true false false c ex ea ez ec (ap (λ (q : ℕ). some (LostMark q (R.refusal s.place))) e)
       go false ex a ea z ez true ec d ed = inl (out (frame_at R p) false a z true ex ea ez ec (ap (λ (q : ℕ). some (frame_at R q)) e))
-      go false ex false ea z ez false ec d ed = (over ex ec, rw e at ea, ap R.number e)
+      go false ex false ea z ez false ec d ed = (over ex ec, rw e at ea, ap R.refusal e)
       go false ex true ea z ez false ec false ed = (over ex ec, rw e at ea, rw e at ed)
       go false ex true ea z ez false ec true ed = (over ex ec, rw e at ea, rw e at ed, unconfirmed_same R p (rw e at ea) (rw e at ed) (rw e at ec))
 
@@ -260,11 +261,11 @@ module _ (R : Judged) (positive : 0 < R.period) (p : ℕ) (u : Position) where
       let w : h ≡ R.header p = header_here R a.state p h a.hands ∙ ap R.header a.come.here in
       inl (record { state = a.state; come = a.come; hands = a.hands ∙ ap (λ (g : Header). some (Frame p g)) w })
 
-  pub lost_mark : (n : ℕ) → AppliesIn R p (looks R u) (Lost n) → Memᴰ (LostMark p n) (items R u)
+  pub lost_mark : (n : Refusal) → AppliesIn R p (looks R u) (Lost n) → Memᴰ (LostMark p n) (items R u)
   unfolding AppliesIn
   lost_mark n h = at_item (LostMark p n) h
 
-  pub mark_lost : (n : ℕ) → Memᴰ (LostMark p n) (items R u) → AppliesIn R p (looks R u) (Lost n)
+  pub mark_lost : (n : Refusal) → Memᴰ (LostMark p n) (items R u) → AppliesIn R p (looks R u) (Lost n)
   unfolding AppliesIn
   mark_lost n m = item_at_lem (LostMark p n) refl m
 
@@ -330,5 +331,5 @@ module _ (bytes : List ℕ) (limit place : ℕ) where
   handed_is_out = (handed_out (judged limit bytes) positive place begin, out_handed (judged limit bytes) positive place begin)
 
   -- lost exactly where they have a lost mark, with that number
-  pub lost_is_mark : (n : ℕ) → (Applies bytes limit place (Lost n) → Memᴰ (LostMark place n) (items (judged limit bytes) begin)) × (Memᴰ (LostMark place n) (items (judged limit bytes) begin) → Applies bytes limit place (Lost n))
+  pub lost_is_mark : (n : Refusal) → (Applies bytes limit place (Lost n) → Memᴰ (LostMark place n) (items (judged limit bytes) begin)) × (Memᴰ (LostMark place n) (items (judged limit bytes) begin) → Applies bytes limit place (Lost n))
   lost_is_mark n = (lost_mark (judged limit bytes) positive place begin n, mark_lost (judged limit bytes) positive place begin n)

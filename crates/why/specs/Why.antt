@@ -1,10 +1,12 @@
 -- Why was this period not aired: when each reason applies to a place of a record, said of the looks of the walk over it. `Reasons.one_reason` of proofs/: exactly one does.
 -- Assumes nothing.
-use Rattle.std.specs.Prelude.{Bool, true, false, not, ◌&&◌, ◌⊎◌, ◌≡◌, ℕ, ◌+◌, ◌≤◌, ◌<◌, ltb, length}
+use Rattle.std.specs.Prelude.{Bool, true, false, not, ◌&&◌, ◌⊎◌, ◌≡◌, ℕ, ◌+◌, ◌≤◌, ◌<◌, ltb, length, Result, Ok, Err}
 use mathlib.Core.List.{List, [], ◌∷◌, map, Memᴰ}
 use Rattle.std.proofs.Math.Option.{none, some}
 use Rattle.frame.specs.declared.Header.{Header}
 use Rattle.frame.specs.Rules.{◌when◌, first}
+use Rattle.refusals.specs.declared.Refusal.{Refusal}
+use Rattle.refusals.specs.Refusals.{refusal_number, outcome_number}
 use Rattle.walk.specs.declared.Item.{Item}
 use Rattle.walk.specs.declared.Item.TheVariants.{Frame, Idle, Lost as LostMark}
 use Rattle.walk.specs.declared.Position.{Position}
@@ -15,8 +17,6 @@ use Rattle.walk.specs.ItemValues.{done_kind, kind_of, place_of}
 use Rattle.walk.specs.Records.{judged, allowed, calls_at}
 use Rattle.why.specs.declared.Reason.{Reason}
 use Rattle.why.specs.declared.Reason.TheVariants.{HandedOut, Lost, Refused, NotStanding, SameSync, SteppedOver}
-use Rattle.why.specs.declared.Answer.{Answer}
-use Rattle.why.specs.declared.Answer.TheVariants.{Because, Not}
 
 -- OF A WALK WITH THE LOOKS l, AND A PLACE p
 
@@ -59,8 +59,8 @@ unfoldable pub AppliesIn : Judged → ℕ → List Position → Reason → Type 
 AppliesIn R p l HandedOut = HandedAt R p l (frame_at R p) ⊎ HandedAt R p l (Idle p)
 -- "lost, with the refusal number"
 AppliesIn R p l (Lost n) = HandedAt R p l (LostMark p n)
--- "hunted over and refused, with the number"
-AppliesIn R p l (Refused n) = HuntedOver R p l × (R.stands p ≡ false) × (n ≡ R.number p)
+-- "hunted over and refused, with the number": of a record it is the number there (`Numbered.refusal_told` of walk)
+AppliesIn R p l (Refused n) = HuntedOver R p l × (R.stands p ≡ false) × (n ≡ R.refusal p)
 -- "stood but the period after it did not confirm": it does not stand
 AppliesIn R p l NotStanding = HuntedOver R p l × (R.stands p ≡ true) × (followed R p ≡ false)
 -- or else it stands, with the same sync word
@@ -116,8 +116,8 @@ reason_number (SteppedOver q) = 5
 -- the refusal number that it gives, 0 where it gives none
 abbrev pub refusal_given : Reason → ℕ
 refusal_given HandedOut = 0
-refusal_given (Lost n) = n
-refusal_given (Refused n) = n
+refusal_given (Lost n) = refusal_number n
+refusal_given (Refused n) = refusal_number n
 refusal_given NotStanding = 0
 refusal_given SameSync = 0
 refusal_given (SteppedOver q) = 0
@@ -134,14 +134,10 @@ place_given (SteppedOver q) = q
 abbrev pub reason_values : Reason → List ℕ
 reason_values r = reason_number r ∷ refusal_given r ∷ place_given r ∷ []
 
--- AN ANSWER: its number, 0 where there is a reason, and its values, none where it is refused
-abbrev pub answer_number : Answer → ℕ
-answer_number (Because r) = 0
-answer_number (Not n) = n
-
-abbrev pub answer_values : Answer → List ℕ
-answer_values (Because r) = reason_values r
-answer_values (Not n) = []
+-- AN ANSWER: its number is the outcome's, 0 where there is a reason; its values, none where it is refused
+abbrev pub answer_values : Result Reason Refusal → List ℕ
+answer_values (Ok r) = reason_values r
+answer_values (Err n) = []
 
 -- they are the values of a reason that applies
 pub record Reasoned (bytes : List ℕ) (limit place : ℕ) (values : List ℕ) : Type 0 where
@@ -150,7 +146,7 @@ pub record Reasoned (bytes : List ℕ) (limit place : ℕ) (values : List ℕ) :
   pub same : values ≡ reason_values reason
 
 -- what is answered: the refusal, or the reason that applies
-pub record Answers (bytes : List ℕ) (limit place : ℕ) (a : Answer) : Type 0 where
-  pub number : answer_number a ≡ why_refusal_of bytes limit place
+pub record Answers (bytes : List ℕ) (limit place : ℕ) (a : Result Reason Refusal) : Type 0 where
+  pub number : outcome_number a ≡ why_refusal_of bytes limit place
   pub reasoned : why_refusal_of bytes limit place ≡ 0 → Reasoned bytes limit place (answer_values a)
   pub refused : (why_refusal_of bytes limit place ≡ 0 → ⊥) → answer_values a ≡ []

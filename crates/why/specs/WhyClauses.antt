@@ -15,7 +15,7 @@ use Rattle.why.specs.Why.{followed}
 
 -- the reason for a place that was hunted over
 unfoldable pub hunted_for : Judged → ℕ → Reason
-hunted_for R p = pick (R.stands p) (pick (followed R p) SameSync NotStanding) (Refused (R.number p))
+hunted_for R p = pick (R.stands p) (pick (followed R p) SameSync NotStanding) (Refused (R.refusal p))
 
 -- what an item at q, with the reason for its own place, says of p, the walk going on to next
 unfoldable pub SaysAt : ℕ → Reason → ℕ → ℕ → Found → Type 0

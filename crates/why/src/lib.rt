@@ -6,25 +6,19 @@ ghost use Rattle.walk.specs.Records.{judged};
 ghost use Rattle.why.specs.Why.{Applies, Answers};
 ghost use Rattle.why.specs.WhyClauses.{hunted_for, SaysAt, Says, Asked};
 
-use walk::{Begun, Item, State};
+use refusals::Refusal;
+use walk::{Item, State};
 
-// How a place fared in the walk over its record: handed out, as a frame or an idle item; lost, or hunted over and refused, with the number; stood while hunting,
+// How a place fared in the walk over its record: handed out, as a frame or an idle item; lost, or hunted over and refused, with the refusal; stood while hunting,
 // and the place a period later does not stand, or stands with the same sync word; stepped over in lock, with the place of the item before it.
 #[derive(Clone, Copy)]
 pub enum Reason {
     HandedOut,
-    Lost(u8),
-    Refused(u8),
+    Lost(Refusal),
+    Refused(Refusal),
     NotStanding,
     SameSync,
     SteppedOver(usize),
-}
-
-// The reason, or the refusal.
-#[derive(Clone, Copy)]
-pub enum Answer {
-    Because(Reason),
-    Not(u8),
 }
 
 // What a step of the walk says of a place: it was hunted over before the step's item, its reason, or nothing, since the walk is not past it.
@@ -40,18 +34,14 @@ fn hunted(bytes: &[u8], limit: usize, p: usize) -> Reason
     requires { p + 6144 ≤ length bytes.now }
     ensures { result ≡ hunted_for (judged limit bytes.now) p }
 {
-    let n = periods::judge_at(bytes, p);
-    if n != 0 {
-        return Reason::Refused(n);
+    if let Err(refusal) = periods::judge_at(bytes, p) {
+        return Reason::Refused(refusal);
     }
-    let q = p + 6144;
-    if bytes.len() - q < 6144 {
-        return Reason::NotStanding;
+    if periods::judge_at(bytes, p + 6144).is_ok() {
+        Reason::SameSync
+    } else {
+        Reason::NotStanding
     }
-    if periods::judge_at(bytes, q) != 0 {
-        return Reason::NotStanding;
-    }
-    Reason::SameSync
 }
 
 // By an item at q, the reason for its own place, and the place to which the walk goes.
@@ -90,10 +80,8 @@ fn reason_at(bytes: &[u8], start: State, place: usize) -> Reason
     let mut walk = start;
     loop {
         let step = walk.step(bytes);
-        let item = step.item;
         let next = step.walk;
-        let to = next.position.place;
-        let found = seek(item, to, place);
+        let found = seek(step.item, next.position.place, place);
         match found {
             Found::Hunted => return hunted(bytes, limit, place),
             Found::At(reason) => return reason,
@@ -102,22 +90,13 @@ fn reason_at(bytes: &[u8], start: State, place: usize) -> Reason
     }
 }
 
-// Why a place fared as it did in the walk with a limit: 27 for a limit outside 1 to 8, then 34 for a place outside 0 to length - 6,144.
-pub fn why(bytes: &[u8], limit: usize, place: usize) -> Answer
+// Why a place fared as it did in the walk with a limit: refused for a limit outside 1 to 8, then for a place outside 0 to length - 6,144.
+pub fn why(bytes: &[u8], limit: usize, place: usize) -> Result<Reason, Refusal>
     ensures { Answers bytes.now limit place result }
 {
-    let begun = walk::begin(limit);
-    match begun {
-        Begun::Refused(n) => Answer::Not(n),
-        Begun::Walk(start) => {
-            let n = bytes.len();
-            if n < 6144 {
-                return Answer::Not(34);
-            }
-            if place > n - 6144 {
-                return Answer::Not(34);
-            }
-            Answer::Because(reason_at(bytes, start, place))
-        }
+    let start = walk::begin(limit)?;
+    if !periods::whole(bytes, place) {
+        return Err(Refusal::PlaceOutside);
     }
+    Ok(reason_at(bytes, start, place))
 }

@@ -1,25 +1,17 @@
 // Writing the one frame that the fields call for.
 #![tactic(auto)]
 
-ghost use Rattle.std.specs.Prelude.{[], ◌∷◌, ◌++◌, ◌≡◌, ◌+◌, ◌-◌, ◌*◌, ◌≤◌, ◌<◌, length, take, replicate};
+ghost use Rattle.std.specs.Prelude.{[], ◌∷◌, ◌++◌, ◌≡◌, ◌+◌, ◌-◌, ◌*◌, ◌≤◌, length, take, replicate};
 ghost use Rattle.octets.specs.Words.{split, join, bytes2, bytes4};
 ghost use Rattle.frame.specs.Frame.{fc_widths, sstc_widths, tist_widths};
 ghost use Rattle.frame.specs.Answers.{digit, time_by};
 ghost use Rattle.frame.specs.Writing.{stream_values, streams_bytes, fl_in, sync_in, header_in, frame_in, Writes};
 ghost use Rattle.octets.specs.Stores.{put};
+ghost use Rattle.refusals.specs.Refusals.{outcome_number};
 ghost use Rattle.writing.specs.WriteClauses.{Ready};
 
 use frame::{Fields, Stream, Timestamp};
-
-fn time(timestamp: Timestamp) -> usize
-    ensures { (result ≡ time_by timestamp) × (result < 4294967296) }
-{
-    match timestamp {
-        Timestamp::Absent => 0xFFFFFF,
-        Timestamp::Time(n) => n as usize,
-        Timestamp::Reserved(n) => n as usize,
-    }
-}
+use refusals::Refusal;
 
 fn stream_word(s: Stream) -> usize
     ensures { result ≡ join sstc_widths (stream_values s) }
@@ -35,10 +27,8 @@ fn put_streams(out: &mut [u8], table: [Stream; 64], n: usize)
     requires { (n ≤ 64) × (length out.old ≡ 6144) }
     ensures { (out.new ≡ put out.old 8 (streams_bytes (take n table))) × (length table ≡ 64) }
 {
-    let mut i = 0;
-    while i < n {
+    for i in 0..n {
         putting::put4(out, 8 + 4 * i, stream_word(table[i]));
-        i += 1;
     }
 }
 
@@ -47,11 +37,7 @@ fn pad(out: &mut [u8], from: usize)
     requires { from ≤ length out.old }
     ensures { out.new ≡ put out.old from (replicate (length out.old - from) 0x55) }
 {
-    let mut i = from;
-    while i < out.len() {
-        out[i] = 0x55;
-        i += 1;
-    }
+    out[from..].fill(0x55);
 }
 
 fn fc_word(fct: u8, ficf: bool, count: usize, fp: u8, mid: u8, fl: usize) -> usize
@@ -69,7 +55,7 @@ fn fc_word(fct: u8, ficf: bool, count: usize, fp: u8, mid: u8, fl: usize) -> usi
 fn tist_word(rfa: u8, timestamp: Timestamp) -> usize
     ensures { result ≡ join tist_widths (rfa ∷ time_by timestamp ∷ []) }
 {
-    (rfa as usize) * 16777216 + time(timestamp)
+    (rfa as usize) * 16777216 + timestamp.number() as usize
 }
 
 // SYNC, FC, STC and MNSC.
@@ -77,12 +63,10 @@ fn put_header(out: &mut [u8], x: Fields, fl: usize)
     requires { (x.count ≤ 64) × (fl ≡ fl_in x) × (fl ≤ 1532) × (length out.old ≡ 6144) }
     ensures { (out.new ≡ put out.old 0 (sync_in x ++ header_in x)) × (length (header_in x) ≡ 6 + 4 * x.count) }
 {
-    let count = x.count;
-    let table = x.table;
     putting::put4(out, 0, meaning::sync(x.level, x.fsync1));
-    putting::put4(out, 4, fc_word(x.fct, x.ficf, count, x.fp, x.mid, fl));
-    put_streams(out, table, count);
-    putting::put2(out, 8 + 4 * count, x.mnsc);
+    putting::put4(out, 4, fc_word(x.fct, x.ficf, x.count, x.fp, x.mid, fl));
+    put_streams(out, x.table, x.count);
+    putting::put2(out, 8 + 4 * x.count, x.mnsc);
 }
 
 // What follows the main stream, whose sum is given.
@@ -90,20 +74,17 @@ fn put_end(out: &mut [u8], at: usize, x: Fields, sum: u16)
     requires { at + 8 ≤ length out.old }
     ensures { out.new ≡ put out.old at (split bytes2 sum ++ split bytes2 x.rfu ++ split bytes4 (join tist_widths (x.rfa ∷ time_by x.timestamp ∷ []))) }
 {
-    let timestamp = x.timestamp;
     putting::put2(out, at, sum);
     putting::put2(out, at + 2, x.rfu);
-    putting::put4(out, at + 4, tist_word(x.rfa, timestamp));
+    putting::put4(out, at + 4, tist_word(x.rfa, x.timestamp));
 }
 
 fn fl(x: Fields) -> usize
     requires { x.count ≤ 64 }
     ensures { result ≡ fl_in x }
 {
-    let count = x.count;
-    let table = x.table;
-    let seen = refusing::look_over(table, count);
-    count + 1 + meaning::ficl(meaning::bit(x.ficf), x.mid) + 2 * (seen.total as usize)
+    let seen = refusing::look_over(x.table, x.count);
+    x.count + 1 + meaning::ficl(meaning::bit(x.ficf), x.mid) + 2 * (seen.total as usize)
 }
 
 fn fill(x: Fields, main: &[u8], out: &mut [u8])
@@ -121,15 +102,11 @@ fn fill(x: Fields, main: &[u8], out: &mut [u8])
     pad(out, next + 8);
 }
 
-// The frame that the fields and the main stream lent call for, into the output lent. The number of the refusal, 0 for
-// none; refused, the output is as it was.
-pub fn write(fields: Fields, main: &[u8], out: &mut [u8]) -> u8
-    ensures { Writes fields main.now out.old out.new result }
+// The frame that the fields and the main stream lent call for, into the output lent; refused, the output is as it was.
+pub fn write(fields: Fields, main: &[u8], out: &mut [u8]) -> Result<(), Refusal>
+    ensures { Writes fields main.now out.old out.new (outcome_number result) }
 {
-    let refusal = refusing::refusal(fields, main.len(), out.len());
-    if refusal != 0 {
-        return refusal;
-    }
+    refusing::refusal(fields, main.len(), out.len())?;
     fill(fields, main, out);
-    0
+    Ok(())
 }

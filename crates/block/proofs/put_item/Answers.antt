@@ -7,7 +7,7 @@ returns-in-Frame c = rw c.in-Frame.is c.put_told.ensures
 
 pub returns-in-Lost : goal.returns-in-Lost
 unfolding step_bytes
-returns-in-Lost c = rw c.in-Lost.is c.put_told-in-Lost.ensures
+returns-in-Lost c = rw (c.in-Lost.is, ← c.number.ensures.0) c.put_told-in-Lost.ensures
 
 pub returns-in-Idle : goal.returns-in-Idle
 unfolding step_bytes

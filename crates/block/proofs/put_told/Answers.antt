@@ -11,4 +11,4 @@ returns-then-out-lt23 c = put_short _ _ _ (search rules)
 pub returns : goal.returns
 returns c =
     told_stored c.args.walk c.args.kind c.args.number c.args.item c.args.fct c.args.level _ c.args.out.now _ _ _ _ (search rules) (search rules) (search rules) (search rules) (search rules)
-    c.bit-lock.ensures c.put8.ensures c.put_marks.ensures c.put8-2.ensures c.put_frame.ensures
+    (search rules) c.put8.ensures c.put_bytes.ensures c.put8-2.ensures c.put_bytes-2.ensures

@@ -1,15 +1,16 @@
 -- `capacity::unequal` meets its contract.
 -- Assumes nothing.
-use Rattle.capacity.proofs.SizeLaws.{unequal_index, unequal_none, unequal_some}
-use native.Mathlib.Omega.{arith}
-use borrow.Author.Rules.{rules}
+use Rattle.std.proofs.Common.{rules, ◌∙◌, ◌+◌, ◌*◌, ◌-◌, ℕ, ap, get_or, arith}
+use Rattle.capacity.specs.Sizes.{unequal_sizes}
+use Rattle.capacity.proofs.SizeLaws.{unequal_none, unequal_some}
 use Rattle.capacity.proofs.unequal.Goals as goal
 
-pub returns-then-index-gt4 : goal.returns-then-index-gt4
-returns-then-index-gt4 c = (unequal_index _ _ c.if-index-gt4.true, search rules)
+pub returns-in-Some : goal.returns-in-Some
+returns-in-Some c = (
+  unequal_some c.args.index c.args.stl (omega arith) c.in-Some.row _ c.in-Some.ensures
+      (c.from-in-Some.ensures ∙ c.listed.ensures.0 ∙ ap (λ (n : ℕ). get_or unequal_sizes (5 * c.in-Some.row + (4 - n)) 0) c.from.ensures),
+  rw c.from-in-Some.ensures c.listed.ensures.1,
+)
 
-pub returns-then-row-eq14 : goal.returns-then-row-eq14
-returns-then-row-eq14 c = (unequal_none _ _ _ (omega arith) c.row-row.ensures.0 c.if-row-eq14.true, search rules)
-
-pub returns : goal.returns
-returns c = (unequal_some _ _ _ (omega arith) c.row-row.ensures.0 _ c.listed.ensures.0, search rules)
+pub returns-in-None : goal.returns-in-None
+returns-in-None c = (unequal_none c.args.index c.args.stl (omega arith) c.in-None.ensures, search rules)

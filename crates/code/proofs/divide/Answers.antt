@@ -1,7 +1,6 @@
--- `code::divide` meets its contract.
--- Assumes nothing.
+use borrow.Author.Rules.{rules}
 use Rattle.code.proofs.CodeRegisters.{divided}
 use Rattle.code.proofs.divide.Goals as goal
 
 pub returns : goal.returns
-returns c = divided c.args.rest _ c.args.b c.multiple.ensures
+returns g c q k m = divided g.row.R c.args.rest _ c.args.b c.args.multiples.now q c.requires.0 c.requires.1 (search rules) k m c.multiple.ensures

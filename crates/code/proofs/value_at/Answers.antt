@@ -1,9 +1,10 @@
--- `code::value_at` meets its contract.
--- Assumes nothing.
+use mathlib.Core.Path.{◌≡◌, ◌∙◌}
 use borrow.Author.Rules.{rules}
-use Rattle.code.proofs.CodeTurns.{value_more}
+use lib.Bits.{bit_xor}
+use Rattle.std.specs.List.{fold}
+use Rattle.field.specs.Field.{times}
+use Rattle.code.proofs.CodeTurns.{by_fold}
 use Rattle.code.proofs.value_at.Goals as goal
 
-pub loop-i-preserved : goal.loop-i-preserved
-loop-i-preserved c =
-    (search rules, value_more _ c.loop-i.i _ _ _ (search rules) c.loop-i.invariant.1 c.times.ensures)
+pub returns : goal.returns
+returns c = let e : c.fold.result ≡ fold (λ v b. bit_xor (times v c.args.z) b) 0 c.args.row.now = search rules in e ∙ by_fold c.args.z 0 c.args.row.now

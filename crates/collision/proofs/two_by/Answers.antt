@@ -1,19 +1,29 @@
 -- `collision::two_by` meets its contract.
 -- Assumes nothing.
-use Rattle.collision.proofs.ByNumber.{by_30, by_31, by_32, by_33, by_other}
+use Rattle.places.specs.Places.{same_scid, unsized, beyond, meets}
+use Rattle.refusals.specs.declared.Refusal.TheVariants.{EqualScids, NoSize, Beyond, Overlap}
+use Rattle.refusals.proofs.Numbers.{number_fixed}
+use Rattle.collision.specs.Collisions.{two_by}
+use Rattle.collision.proofs.ByNumber.{by_other}
 use Rattle.collision.proofs.two_by.Goals as goal
 
-pub returns-then-number-eq30 : goal.returns-then-number-eq30
-returns-then-number-eq30 c = by_30 _ _ _ _ c.if-number-eq30.true c.pair_by.ensures
+pub returns-in-EqualScids : goal.returns-in-EqualScids
+unfolding two_by
+returns-in-EqualScids c = rw c.in-EqualScids.is (c.pair.ensures same_scid (λ p q r e. e.2))
 
-pub returns-then-number-eq31 : goal.returns-then-number-eq31
-returns-then-number-eq31 c = by_31 _ _ _ _ c.if-number-eq31.true c.alone_by.ensures
+pub returns-in-NoSize : goal.returns-in-NoSize
+unfolding two_by
+returns-in-NoSize c = rw c.in-NoSize.is (c.alone.ensures unsized (λ p r e. e.1))
 
-pub returns-then-number-eq32 : goal.returns-then-number-eq32
-returns-then-number-eq32 c = by_32 _ _ _ _ c.if-number-eq32.true c.alone_by-then-number-eq32.ensures
+pub returns-in-Beyond : goal.returns-in-Beyond
+unfolding two_by
+returns-in-Beyond c = rw c.in-Beyond.is (c.alone-in-Beyond.ensures beyond (λ p r e. e.1))
 
-pub returns-then-number-eq33 : goal.returns-then-number-eq33
-returns-then-number-eq33 c = by_33 _ _ _ _ c.if-number-eq33.true c.pair_by-then-number-eq33.ensures
+pub returns-in-Overlap : goal.returns-in-Overlap
+unfolding two_by
+returns-in-Overlap c = rw c.in-Overlap.is (c.pair-in-Overlap.ensures meets (λ p q r e. e.2))
 
-pub returns : goal.returns
-returns c = by_other _ _ _ c.if-number-eq30.false c.if-number-eq31.false c.if-number-eq32.false c.if-number-eq33.false
+pub returns-in_default : goal.returns-in_default
+returns-in_default c =
+    let n = c.in_default in
+    by_other _ _ _ (λ e. n.not-EqualScids (number_fixed _ EqualScids e)) (λ e. n.not-NoSize (number_fixed _ NoSize e)) (λ e. n.not-Beyond (number_fixed _ Beyond e)) (λ e. n.not-Overlap (number_fixed _ Overlap e))

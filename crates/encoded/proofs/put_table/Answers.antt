@@ -11,7 +11,7 @@ use Rattle.encoded.proofs.put_table.Goals as goal
 
 pub loop-i-init : goal.loop-i-init
 unfolding table_bytes
-loop-i-init c = (search rules, refl, put_none c.args.out.now 22 (search rules))
+loop-i-init c = (refl, put_none c.args.out.now 22 (search rules))
 
 pub loop-i-preserved : goal.loop-i-preserved
 loop-i-preserved c =
@@ -19,6 +19,6 @@ loop-i-preserved c =
     let t = c.args.table in
     let i = c.loop-i.i in
     let e : length t ≡ 64 = (search rules) in
-    let stored : c.put_stream.new.out ≡ put l 22 (table_bytes (take (i + 1) t)) =
-    c.put_stream.ensures ∙ rw c.loop-i.invariant.2 (table_more l t i (search rules) e (omega arith)) in
-    (search rules, search rules, stored)
+    let stored : c.put_bytes.new.out ≡ put l 22 (table_bytes (take (i + 1) t)) =
+    c.put_bytes.ensures ∙ rw (c.loop-i.invariant.1, c.entry.ensures) (table_more l t i (search rules) e (omega arith)) in
+    (search rules, stored)

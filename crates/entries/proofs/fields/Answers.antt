@@ -4,4 +4,4 @@ use Rattle.entries.proofs.fields.Goals as goal
 pub returns : goal.returns
 unfolding fields_in
 returns c =
-    rw (c.two-2.ensures.0, c.two.ensures.0, c.table-table.ensures, c.timestamp-timestamp.ensures, c.word.ensures.0)
+    rw (c.two-2.ensures.0, c.two.ensures.0, c.table.ensures, c.timestamp.ensures, c.word.ensures.0)

@@ -1,8 +1,10 @@
+use mathlib.Core.Path.{refl}
+use Rattle.refusals.proofs.Numbers.{above_zero}
 use Rattle.walks.proofs.WalkTelling.{limit_refused, limited_length}
 use Rattle.entries.proofs.spindlewren_nth.Goals as goal
 
-pub returns-then-refusal-ne0 : goal.returns-then-refusal-ne0
-returns-then-refusal-ne0 c = limit_refused _ 10 _ _ _ c.limit_refusal-refusal.ensures c.if-refusal-ne0.true
+pub returns-in-Err : goal.returns-in-Err
+returns-in-Err c = rw c.number.ensures.0 (limit_refused _ 10 _ _ _ c.in-Err.ensures (above_zero _))
 
 pub returns-then-answer-ne10 : goal.returns-then-answer-ne10
-returns-then-answer-ne10 c = limited_length _ 10 _ _ _ c.limit_refusal-refusal.ensures c.if-refusal-ne0.false c.if-answer-ne10.true
+returns-then-answer-ne10 c = rw c.number-then-answer-ne10.ensures.0 (limited_length _ 10 _ _ _ c.in_default.ensures refl c.if-answer-ne10.true)

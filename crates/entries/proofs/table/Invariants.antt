@@ -1,11 +1,7 @@
 use mathlib.Core.Path.{◌≡◌}
-use Prim.Native.Nat.{◌≤◌, ◌-◌}
 use Rattle.frame.specs.Answers.{table_by}
 use Rattle.entries.specs.Entered.{entries_to}
 use Rattle.entries.proofs.table.Given as goal
 
 abbrev pub invariant-loop-i : goal.invariant-loop-i
-invariant-loop-i l = (l.i ≤ 64) × (l.table ≡ table_by (entries_to l.bytes l.i))
-
-abbrev pub decreases-loop-i : goal.decreases-loop-i
-decreases-loop-i l = 64 - l.i
+invariant-loop-i l = l.table ≡ table_by (entries_to l.bytes l.i)

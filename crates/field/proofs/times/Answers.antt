@@ -8,14 +8,11 @@ use Rattle.field.proofs.times.Goals as goal
 
 pub loop-k-init : goal.loop-k-init
 unfolding times_to
-loop-k-init c = (search rules, refl)
+loop-k-init c = refl
 
 pub loop-k-preserved : goal.loop-k-preserved
-loop-k-preserved c = (
-  search rules,
-  turn c.args.a c.args.b c.loop-k.k _ _ _
-      (search rules) (search rules) (search rules) c.loop-k.invariant.1 c.twice.ensures c.part.ensures,
-)
+loop-k-preserved c =
+    turn c.args.a c.args.b c.loop-k.k _ _ _ (search rules) (search rules) (search rules) c.loop-k.invariant c.twice.ensures c.part.ensures
 
 pub returns : goal.returns
-returns c = finished _ _ c.loop-k.k _ (search rules) c.loop-k.invariant.1
+returns c = finished _ _ c.loop-k.k _ (search rules) c.loop-k.invariant

@@ -1,7 +1,7 @@
 -- `homeward::coding_array` meets its contract.
 -- Assumes nothing.
 use mathlib.Core.List.{List, []}
-use Prim.Native.Nat.{ℕ, ◌-◌}
+use Prim.Native.Nat.{ℕ}
 use Rattle.array.specs.Listed.{list}
 use Rattle.array.proofs.Filling.{Filled}
 use Rattle.homeward.specs.BackClauses.{cell}
@@ -12,7 +12,4 @@ abbrev pub row_of : List ℕ → ℕ → List ℕ
 row_of x i = list (cell x i) 240
 
 abbrev pub invariant-loop-i : goal.invariant-loop-i
-invariant-loop-i l = Filled (row_of l.array) [] 24 l.coding l.i
-
-abbrev pub decreases-loop-i : goal.decreases-loop-i
-decreases-loop-i l = 24 - l.i
+invariant-loop-i l = Filled (row_of l.array) [] 24 l.row-items l.i

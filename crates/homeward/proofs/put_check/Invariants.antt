@@ -7,6 +7,3 @@ use Rattle.homeward.proofs.put_check.Given as goal
 
 abbrev pub invariant-loop-i : goal.invariant-loop-i
 invariant-loop-i l = Filled (check_byte_of l.w l.array) 0 (24 * (240 - l.w)) l.out (l.i * (240 - l.w))
-
-abbrev pub decreases-loop-i : goal.decreases-loop-i
-decreases-loop-i l = 24 - l.i

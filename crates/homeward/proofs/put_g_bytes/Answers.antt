@@ -14,4 +14,4 @@ returns c =
     let o = c.args.output.now in
     let first = c.args.first in
     c.put_each.ensures
-    ∙ each_is o c.args.out.now first 32 192 (λ n. get_or o (32 * n + first) 0) c.requires.2 (λ m h. ap (λ (a : ℕ). get_or o a 0) (omega arith))
+    ∙ each_is o c.args.out.now first 32 192 (λ n. get_or o (32 * n + first) 0) c.requires.1 (λ m h. ap (λ (a : ℕ). get_or o a 0) (omega arith))

@@ -1,6 +1,5 @@
 -- `homeward::put_rows` meets its contract.
 -- Assumes nothing.
-use Prim.Native.Nat.{◌-◌}
 use lib.ListN.{length}
 use Rattle.array.specs.CodingArray.{width_of}
 use Rattle.array.proofs.Filling.{Filled}
@@ -9,6 +8,3 @@ use Rattle.homeward.proofs.put_rows.Given as goal
 
 abbrev pub invariant-loop-i : goal.invariant-loop-i
 invariant-loop-i l = Filled (clean_row (width_of l.fourteen) l.output) 0 (length l.initial.clean) l.clean l.i
-
-abbrev pub decreases-loop-i : goal.decreases-loop-i
-decreases-loop-i l = length l.initial.clean - l.i

@@ -25,11 +25,10 @@ put_upper_row-requires c =
     let s = c.args.s in
     record {
       wide = c.requires.0;
-      array = c.requires.1;
       row = search rules;
       upper = omega arith;
-      next = upper_next w s 0 (8 * s) (s * superblock w) c.requires.2 (omega arith) (omega arith) (omega arith);
-      so_far = c.requires.3;
+      next = upper_next w s 0 (8 * s) (s * superblock w) c.requires.1 (omega arith) (omega arith) (omega arith);
+      so_far = c.requires.2;
     }
 
 pub put_upper_row-requires-2 : goal.put_upper_row-requires-2
@@ -38,10 +37,9 @@ put_upper_row-requires-2 c =
     let s = c.args.s in
     record {
       wide = c.requires.0;
-      array = c.requires.1;
       row = search rules;
       upper = omega arith;
-      next = upper_next w s 1 (8 * s + 1) (s * superblock w + (w - 8)) c.requires.2 (omega arith) refl (omega arith);
+      next = upper_next w s 1 (8 * s + 1) (s * superblock w + (w - 8)) c.requires.1 (omega arith) refl (omega arith);
       so_far = c.put_upper_row.ensures;
     }
 
@@ -51,8 +49,5 @@ loop-k-preserved c =
     let s = c.args.s in
     let at-loop = c.loop-k in
     let taken = c.loop-k-test.true in
-    let k = at-loop.k in (
-      search rules,
-      search rules,
-      run_out c.requires.0 c.args.array.now _ (8 * s + k) 0 w (s * superblock w + k * w - 16) _ c.requires.1 c.interleaved.ensures (lower_run w s k _ c.requires.0 c.requires.2 at-loop.invariant.0 taken refl) at-loop.invariant.2 _ _ c.put_each.ensures (next_row (s * superblock w) w k c.requires.0.above at-loop.invariant.0),
-    )
+    let k = at-loop.k in
+    run_out c.requires.0 c.args.array.now _ (8 * s + k) 0 w (s * superblock w + k * w - 16) _ (search rules) c.interleaved.ensures (lower_run w s k _ c.requires.0 c.requires.1 at-loop.auto.k taken refl) at-loop.invariant _ _ c.put_each.ensures (next_row (s * superblock w) w k c.requires.0.above at-loop.auto.k)

@@ -1,11 +1,8 @@
 -- `homeward::put_upper_row` meets its contract.
 -- Assumes nothing.
-use Prim.Native.Nat.{◌+◌, ◌-◌, ◌*◌, ◌≤◌}
+use Prim.Native.Nat.{◌+◌, ◌*◌}
 use Rattle.homeward.specs.BackClauses.{Out}
 use Rattle.homeward.proofs.put_upper_row.Given as goal
 
 abbrev pub invariant-loop-b : goal.invariant-loop-b
-invariant-loop-b l = (l.b ≤ 7) × (Out l.w l.array l.out (l.at + 29 * l.b))
-
-abbrev pub decreases-loop-b : goal.decreases-loop-b
-decreases-loop-b l = 7 - l.b
+invariant-loop-b l = Out l.w l.array l.out (l.at + 29 * l.b)

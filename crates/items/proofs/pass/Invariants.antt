@@ -4,7 +4,7 @@ use Rattle.items.proofs.OnePass.{Midway}
 use Rattle.items.proofs.pass.Given as goal
 
 abbrev pub invariant-loop-at : goal.invariant-loop-at
-invariant-loop-at l = Midway l.packet l.tallies l.starts l.lens l.highest l.at
+invariant-loop-at l = Midway l.packet l.met l.highest l.at
 
 abbrev pub decreases-loop-at : goal.decreases-loop-at
 decreases-loop-at l = length l.packet - l.at

@@ -1,15 +1,11 @@
+use Rattle.std.proofs.Common.{rules}
+use Rattle.std.proofs.lemmas.Result.{err_from_is_err_and}
+use Rattle.refusals.proofs.Numbers.{above_zero}
 use Rattle.judging.proofs.Judging.{head_judges, body_judges}
-use Rattle.octets.proofs.Deciding.{tests}
-use Rattle.frame.specs.Rules.{refusal_of}
-use borrow.Author.Rules.{rules}
 use Rattle.judging.proofs.judge.Goals as goal
 
-pub returns-then-frame-ne6144 : goal.returns-then-frame-ne6144
-unfolding refusal_of
-returns-then-frame-ne6144 c = search (rules, tests)
-
-pub returns-then-head-ne0 : goal.returns-then-head-ne0
-returns-then-head-ne0 c = head_judges c.args.frame.now (search rules) _ c.head_in-head.ensures c.if-head-ne0.true
+pub returns-in_err-head_in : goal.returns-in_err-head_in
+returns-in_err-head_in c = let p = err_from_is_err_and c.from_residual.result c.from_residual.ensures.1 in rw (p.1, p.2) (head_judges c.args.frame.now (search rules) _ c.in_err-head_in.ensures (above_zero _))
 
 pub returns : goal.returns
-returns c = body_judges c.args.frame.now (search rules) _ _ c.head_in-head.ensures c.if-head-ne0.false c.body_in.ensures
+returns c = body_judges c.args.frame.now (search rules) _ _ c.in_ok-head_in.ensures (search rules) c.body_in.ensures

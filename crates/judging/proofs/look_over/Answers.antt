@@ -8,7 +8,7 @@ use Rattle.judging.proofs.look_over.Goals as goal
 
 pub loop-i-init : goal.loop-i-init
 unfolding some_stl_above stl_total streams_to
-loop-i-init c = (search rules, refl, refl, search rules)
+loop-i-init c = (refl, refl, search rules)
 
 pub loop-i-preserved : goal.loop-i-preserved
 loop-i-preserved c =
@@ -16,4 +16,4 @@ loop-i-preserved c =
     let i = c.loop-i.i in
     let e = ap (λ (s : Stream). s.stl) c.entry-entry.ensures in
     let inv = c.loop-i.invariant in
-    (search rules, rw (some_more 684 f i, inv.1, e), rw (total_more f i, inv.2, e), search rules)
+    (rw (some_more 684 f i, inv.0, e), rw (total_more f i, inv.1, e), search rules)

@@ -5,4 +5,4 @@ use Rattle.line.proofs.FrameOut.{lowest}
 use Rattle.line.proofs.fl.Goals as goal
 
 pub returns : goal.returns
-returns c = (lowest c.args.frame.now _ c.word.ensures.0, search rules)
+returns c = (lowest c.args.bytes.now c.args.at _ c.word.ensures.0, search rules)

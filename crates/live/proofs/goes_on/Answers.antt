@@ -1,14 +1,28 @@
+use borrow.Author.Rules.{rules}
+use mathlib.Core.Path.{◌∙◌}
+use borrow.Author.Tests.{not-true, not-false}
+use Rattle.walk.proofs.Numbered.{ok_number, err_number}
 use Rattle.live.proofs.LiveParts.{wants_no, wants_outside, wants_hunting, wants_lock}
 use Rattle.live.proofs.goes_on.Goals as goal
+use Rattle.live.proofs.goes_on.Goals.{then-more, else-more}
 
-pub returns-then-not-more : goal.returns-then-not-more
-returns-then-not-more c = wants_no _ _ _ _ c.if-not-more.true
+pub returns-then-not-walk : goal.returns-then-not-walk
+returns-then-not-walk c =
+    elim c.if-more.branch [
+      | then-more w ↦ wants_hunting _ _ _ _ _ w.limit_refusal.ensures w.if-more.true (ok_number w.limit_refusal.result (search rules)) (not-true _ c.if-not-walk.true)
+      | else-more w ↦ absurd (search rules)
+    ]
 
-pub returns-then-limit_refusal-ne0 : goal.returns-then-limit_refusal-ne0
-returns-then-limit_refusal-ne0 c = wants_outside _ _ _ _ _ c.limit_refusal.ensures c.if-limit_refusal-ne0.true
+pub returns-else-not-walk : goal.returns-else-not-walk
+returns-else-not-walk c =
+    elim c.if-more.branch [
+      | then-more w ↦ wants_lock _ _ _ _ _ w.limit_refusal.ensures w.if-more.true (ok_number w.limit_refusal.result (search rules)) (not-false _ c.if-not-walk.false)
+      | else-more w ↦ absurd (search rules)
+    ]
 
-pub returns-then-not-lock : goal.returns-then-not-lock
-returns-then-not-lock c = wants_hunting _ _ _ _ _ c.limit_refusal.ensures c.if-not-more.false c.if-limit_refusal-ne0.false c.if-not-lock.true
-
-pub returns : goal.returns
-returns c = wants_lock _ _ _ _ _ c.limit_refusal.ensures c.if-not-more.false c.if-limit_refusal-ne0.false c.if-not-lock.false
+pub returns-else-is_ok : goal.returns-else-is_ok
+returns-else-is_ok c =
+    elim c.if-more.branch [
+      | then-more w ↦ c.if-is_ok.false ∙ wants_outside _ _ _ _ _ w.limit_refusal.ensures (err_number w.limit_refusal.result (search rules))
+      | else-more w ↦ c.if-is_ok.false ∙ wants_no _ _ _ _ w.if-more.false
+    ]

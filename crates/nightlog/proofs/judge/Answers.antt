@@ -1,11 +1,12 @@
+use Rattle.std.proofs.lemmas.Result.{err_from_is_err_and}
 use Rattle.nightlog.proofs.Judged.{odd, bad, good}
 use Rattle.nightlog.proofs.judge.Goals as goal
 
-pub returns-then-len-ne0 : goal.returns-then-len-ne0
-returns-then-len-ne0 c = odd _ c.if-len-ne0.true
+pub returns-in_err-records : goal.returns-in_err-records
+returns-in_err-records c = let p = err_from_is_err_and c.from_residual.result c.from_residual.ensures.1 in rw (p.1, p.2, c.in_err-records.ensures.0) (odd _ c.in_err-records.ensures.1)
 
-pub returns-then-bad-n : goal.returns-then-bad-n
-returns-then-bad-n c = bad _ _ c.if-len-ne0.false c.first_bad-bad.ensures c.if-bad-n.true
+pub returns-in-Some : goal.returns-in-Some
+returns-in-Some c = let e = c.in_ok-records.ensures in bad _ e.1 _ (rw e.0 at c.in-Some.ensures)
 
-pub returns : goal.returns
-returns c = good _ _ c.if-len-ne0.false c.first_bad-bad.ensures c.if-bad-n.false
+pub returns-in-None : goal.returns-in-None
+returns-in-None c = let e = c.in_ok-records.ensures in good _ e.1 (rw e.0 at c.in-None.ensures)

@@ -1,14 +1,22 @@
-use Rattle.nightlog.proofs.Judged.{find_odd, find_beyond, find_bad, find_good}
+use Rattle.std.proofs.Common.{sym, ◌∙◌, ◌<◌, arith}
+use Rattle.std.proofs.lemmas.Bool.{ltb-true, ltb-false}
+use Rattle.nightlog.specs.Log.{records_in}
+use Rattle.std.proofs.lemmas.Result.{err_from_is_err_and}
+use Rattle.nightlog.proofs.Cut.{chunk_at, counted}
+use Rattle.nightlog.proofs.Judged.{find_odd, find_beyond, find_here}
 use Rattle.nightlog.proofs.read.Goals as goal
 
-pub returns-then-len-ne0 : goal.returns-then-len-ne0
-returns-then-len-ne0 c = rw c.not_found.ensures (find_odd _ _ c.if-len-ne0.true)
+pub returns-in_err-records : goal.returns-in_err-records
+returns-in_err-records c = let p = err_from_is_err_and c.from_residual.result c.from_residual.ensures.1 in rw (p.1, p.2, c.in_err-records.ensures.0) (find_odd _ _ c.in_err-records.ensures.1)
 
-pub returns-then-i-len : goal.returns-then-i-len
-returns-then-i-len c = rw c.not_found-then-i-len.ensures (find_beyond _ _ c.if-len-ne0.false c.if-i-len.true)
+pub returns-in-Some : goal.returns-in-Some
+returns-in-Some c =
+    let e = c.in_ok-records.ensures in
+    let t = c.in-Some.ensures.lookup in
+    let h : c.args.i < records_in c.args.log.now = omega (arith, ltb-true _ _ (sym t.0), counted _ _ e.0) in
+    rw (c.ok_or.ensures.value, c.entry_in.ensures) (find_here _ _ e.1 h _ (t.1 ∙ rw e.0 (chunk_at _ _ _ _ h)))
 
-pub returns-then-not-good_from : goal.returns-then-not-good_from
-returns-then-not-good_from c = rw c.not_found-then-not-good_from.ensures (find_bad _ _ c.if-len-ne0.false _ c.good_from.ensures c.if-i-len.false c.if-not-good_from.true)
-
-pub returns : goal.returns
-returns c = find_good _ _ c.if-len-ne0.false _ c.good_from.ensures c.if-i-len.false _ c.if-not-good_from.false c.entry_from-entry.ensures
+pub returns-in-None : goal.returns-in-None
+returns-in-None c =
+    let e = c.in_ok-records.ensures in
+    find_beyond _ _ e.1 (omega (arith, ltb-false _ _ (sym c.in-None.ensures.lookup.0), counted _ _ e.0))

@@ -15,7 +15,7 @@ loop-i-preserved c =
     let i = c.loop-i.i in
     filled_more _ [] 24 _ i _ c.loop-i.invariant (search rules)
     (row_coded a.fourteen a.information.now a.management.now a.supervision.now _ _ _ i _ c.width-w.ensures.0 (search rules)
-    (c.coding_row-row.ensures ∙ row_same _ a.information.now _ a.management.now a.supervision.now _ i c.filled-all.ensures) c.coded_row.ensures)
+    (c.coding_row-uncoded.ensures ∙ row_same _ a.information.now _ a.management.now a.supervision.now _ i c.filled-all.ensures) c.coded_row.ensures)
 
 pub returns : goal.returns
 unfolding coding_array

@@ -19,5 +19,5 @@ returns c =
     let F = c.put_columns.ensures r in
     let H = c.requires.0 in
     filled_all f 0 240 _ 240
-    (part_filled f 240 r _ _ _ (a.i * (240 - w)) (240 - w) w 240 F (omega (arith, check_fits w a.i c.requires.2, H.check)) (omega (arith, H.most)) (check_at w a.i a.information.now a.management.now a.supervision.now r) refl c.put_bytes.ensures (omega (arith, H.most)))
+    (part_filled f 240 r _ _ _ (a.i * (240 - w)) (240 - w) w 240 F (omega (arith, check_fits w a.i c.requires.1, H.check)) (omega (arith, H.most)) (check_at w a.i a.information.now a.management.now a.supervision.now r) refl c.put_bytes.ensures (omega (arith, H.most)))
     (omega arith)

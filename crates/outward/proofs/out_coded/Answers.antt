@@ -1,35 +1,32 @@
--- `outward::out_coded` meets its contract.
--- Assumes nothing.
+use mathlib.Core.Path.{◌∙◌}
 use Prim.Native.Nat.{ℕ}
-use native.Mathlib.Omega.{arith}
-use borrow.Author.Rules.{rules}
-use Rattle.outward.proofs.Placing.{width_most, refused_length, refused_carried}
-use Rattle.outward.proofs.CodedOut.{asked, sent_coded, lengths_are}
+use Rattle.std.proofs.lemmas.Result.{err_from_is_err_and}
+use Rattle.refusals.proofs.Numbers.{above_zero}
+use Rattle.outward.proofs.Placing.{refused, most, lengths_of}
+use Rattle.outward.proofs.CodedOut.{rows, asked, sent_coded}
 use Rattle.outward.proofs.out_coded.Goals as goal
 
-pub returns-then-wrong-ne0 : goal.returns-then-wrong-ne0
-returns-then-wrong-ne0 c =
+pub returns-in_err-fits : goal.returns-in_err-fits
+returns-in_err-fits c =
     let a = c.args in
-    refused_length _ _ _ _ _ _ _ _ _ (asked a.fourteen a.information.now a.management.now a.supervision.now a.synchronising.now a.signalling.now a.output.now _ _ c.width-w.ensures.0 c.lengths-wrong.ensures) c.if-wrong-ne0.true
-
-pub returns-then-w-information : goal.returns-then-w-information
-returns-then-w-information c =
-    let a = c.args in
-    refused_carried _ _ _ _ _ _ _ _ _ (asked a.fourteen a.information.now a.management.now a.supervision.now a.synchronising.now a.signalling.now a.output.now _ _ c.width-w.ensures.0 c.lengths-wrong.ensures) c.if-wrong-ne0.false (search rules)
+    let p = err_from_is_err_and c.from_residual.result c.from_residual.ensures.1 in
+    rw (p.1, p.2) (refused a.fourteen a.information.now a.management.now a.supervision.now a.synchronising.now a.signalling.now (rows a.fourteen a.information.now a.management.now a.supervision.now a.synchronising.now a.signalling.now a.output.now) a.output.now _ ((rw c.width.ensures.0 at c.in_err-fits.ensures) ∙ asked a.fourteen a.information.now a.management.now a.supervision.now a.synchronising.now a.signalling.now a.output.now) (above_zero _))
 
 pub coded_array-array-requires : goal.coded_array-array-requires
 coded_array-array-requires c =
     let a = c.args in
-    let is : (k : ℕ) → _ = λ k. lengths_are a.fourteen a.information.now a.management.now a.supervision.now a.synchronising.now a.signalling.now a.output.now _ _ k c.lengths-wrong.ensures c.if-wrong-ne0.false in
-    (omega (arith, c.if-w-information.false, c.width-w.ensures.0, width_most a.fourteen), is 1, is 2)
+    let e = (rw c.width.ensures.0 at c.in_ok-fits.ensures) ∙ asked a.fourteen a.information.now a.management.now a.supervision.now a.synchronising.now a.signalling.now a.output.now in
+    let is : (k : ℕ) → _ = λ k. lengths_of a.fourteen a.information.now a.management.now a.supervision.now a.synchronising.now a.signalling.now (rows a.fourteen a.information.now a.management.now a.supervision.now a.synchronising.now a.signalling.now a.output.now) a.output.now k e in
+    (most a.fourteen a.information.now a.management.now a.supervision.now a.synchronising.now a.signalling.now (rows a.fourteen a.information.now a.management.now a.supervision.now a.synchronising.now a.signalling.now a.output.now) a.output.now e, is 1, is 2)
 
 pub put_output-requires : goal.put_output-requires
 put_output-requires c =
     let a = c.args in
-    let is : (k : ℕ) → _ = λ k. lengths_are a.fourteen a.information.now a.management.now a.supervision.now a.synchronising.now a.signalling.now a.output.now _ _ k c.lengths-wrong.ensures c.if-wrong-ne0.false in
+    let e = (rw c.width.ensures.0 at c.in_ok-fits.ensures) ∙ asked a.fourteen a.information.now a.management.now a.supervision.now a.synchronising.now a.signalling.now a.output.now in
+    let is : (k : ℕ) → _ = λ k. lengths_of a.fourteen a.information.now a.management.now a.supervision.now a.synchronising.now a.signalling.now (rows a.fourteen a.information.now a.management.now a.supervision.now a.synchronising.now a.signalling.now a.output.now) a.output.now k e in
     (is 3, is 4, is 0)
 
 pub returns : goal.returns
 returns c =
     let a = c.args in
-    sent_coded a.fourteen a.information.now a.management.now a.supervision.now a.synchronising.now a.signalling.now a.output.now _ _ _ _ c.width-w.ensures.0 c.lengths-wrong.ensures c.if-wrong-ne0.false (search rules) c.coded_array-array.ensures c.put_output.ensures
+    sent_coded a.fourteen a.information.now a.management.now a.supervision.now a.synchronising.now a.signalling.now a.output.now _ _ (rw c.width.ensures.0 at c.in_ok-fits.ensures) c.coded_array-array.ensures c.put_output.ensures

@@ -1,12 +1,9 @@
 -- `outward::put_column` meets its contract.
 -- Assumes nothing.
-use Prim.Native.Nat.{◌+◌, ◌-◌, ◌*◌, ◌≤◌}
+use Prim.Native.Nat.{◌+◌, ◌*◌}
 use Rattle.array.proofs.Filling.{Filled}
 use Rattle.outward.specs.OutClauses.{interleaved_at}
 use Rattle.outward.proofs.put_column.Given as goal
 
 abbrev pub invariant-loop-k : goal.invariant-loop-k
-invariant-loop-k l = (l.k ≤ 8) × (Filled (interleaved_at l.array) 0 5760 l.out (8 * l.u + l.k))
-
-abbrev pub decreases-loop-k : goal.decreases-loop-k
-decreases-loop-k l = 8 - l.k
+invariant-loop-k l = Filled (interleaved_at l.array) 0 5760 l.out (8 * l.u + l.k)

@@ -11,5 +11,5 @@ pub returns : goal.returns
 returns c f F e h =
     let a = c.args in
     let line = a.line in
-    let G = one_filled f 6144 a.output.now _ a.first.now (16 * line) F c.requires.2 (search rules) e c.put_bytes.ensures in
+    let G = one_filled f 6144 a.output.now _ a.first.now (16 * line) F c.requires.1 (search rules) e c.put_bytes.ensures in
     part_filled f 6144 a.array.now _ _ _ (15 * line) 15 (16 * line + 1) _ G (search rules) (search rules) h refl c.put_bytes-2.ensures (omega arith)

@@ -1,6 +1,6 @@
 -- `outward::put_output` meets its contract.
 -- Assumes nothing.
-use Prim.Native.Nat.{◌-◌, ◌*◌}
+use Prim.Native.Nat.{◌*◌}
 use Rattle.array.specs.OutputArray.{output_at}
 use Rattle.array.proofs.Filling.{Filled}
 use Rattle.outward.specs.OutClauses.{beside}
@@ -8,6 +8,3 @@ use Rattle.outward.proofs.put_output.Given as goal
 
 abbrev pub invariant-loop-n : goal.invariant-loop-n
 invariant-loop-n l = Filled (output_at (beside l.synchronising l.signalling) l.array) 0 6144 l.output (32 * l.n)
-
-abbrev pub decreases-loop-n : goal.decreases-loop-n
-decreases-loop-n l = 192 - l.n

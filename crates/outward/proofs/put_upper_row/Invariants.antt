@@ -1,12 +1,9 @@
 -- `outward::put_upper_row` meets its contract.
 -- Assumes nothing.
-use Prim.Native.Nat.{◌-◌, ◌*◌, ◌≤◌}
+use Prim.Native.Nat.{◌*◌}
 use Rattle.array.proofs.Filling.{Filled}
 use Rattle.outward.specs.OutClauses.{upper_row_at}
 use Rattle.outward.proofs.put_upper_row.Given as goal
 
 abbrev pub invariant-loop-b : goal.invariant-loop-b
-invariant-loop-b l = (l.b ≤ 7) × (Filled (upper_row_at l.w l.information l.beside l.i) 0 240 l.row (30 * l.b))
-
-abbrev pub decreases-loop-b : goal.decreases-loop-b
-decreases-loop-b l = 7 - l.b
+invariant-loop-b l = Filled (upper_row_at l.w l.information l.beside l.i) 0 240 l.row (30 * l.b)

@@ -1,16 +1,17 @@
-use Rattle.frame.proofs.Accepting.{judged}
-use mathlib.Core.Path.{◌∙◌}
+use mathlib.Core.Path.{refl, sym, ◌∙◌}
+use Rattle.frame.proofs.Accepting.{acceptable}
 use Rattle.frame.proofs.Tiling.{granted_refused, granted_given}
 use Rattle.frame.specs.Rules.{main_part}
+use Rattle.refusals.proofs.Numbers.{above_zero}
 use Rattle.parts.proofs.main_place.Goals as goal
 
-pub returns-then-judge-ne0 : goal.returns-then-judge-ne0
-unfolding main_part
-returns-then-judge-ne0 c = granted_refused _ _ _ c.judge.ensures c.if-judge-ne0.true
-
 pub main_span-requires : goal.main_span-requires
-main_span-requires c = judged _ _ c.judge.ensures c.if-judge-ne0.false
+main_span-requires c = acceptable _ (sym c.in-Ok.ensures)
 
-pub returns : goal.returns
+pub returns-in-Ok : goal.returns-in-Ok
 unfolding main_part
-returns c = c.main_span.ensures ∙ granted_given _ _ _ c.judge.ensures c.if-judge-ne0.false
+returns-in-Ok c = c.main_span.ensures ∙ granted_given _ _ _ c.in-Ok.ensures refl
+
+pub returns-in-Err : goal.returns-in-Err
+unfolding main_part
+returns-in-Err c = granted_refused _ _ _ c.in-Err.ensures (above_zero _)

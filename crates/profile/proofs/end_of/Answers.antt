@@ -8,6 +8,6 @@ pub returns-then-units-eq0 : goal.returns-then-units-eq0
 unfolding end_by
 returns-then-units-eq0 c = rw (eq-eqb _ 0 c.if-units-eq0.true)
 
-pub returns : goal.returns
+pub returns-else-units-eq0 : goal.returns-else-units-eq0
 unfolding end_by
-returns c = rw (ne_eqb _ 0 c.if-units-eq0.false)
+returns-else-units-eq0 c = rw (ne_eqb _ 0 c.if-units-eq0.false)

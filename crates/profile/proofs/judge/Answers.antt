@@ -1,26 +1,30 @@
 -- `profile::judge` meets its contract.
 -- Assumes nothing.
+use Rattle.std.proofs.lemmas.Result.{err_from_is_err_and}
 use lib.Seq.{take_all, length-take-le}
-use mathlib.Core.Path.{sym}
+use mathlib.Core.List.{List}
+use mathlib.Core.Path.{sym, refl, ap, ◌∙◌}
+use Rattle.frame.specs.Rules.{first}
+use Rattle.places.specs.declared.Place.{Place}
+use Rattle.places.specs.Places.{place_rules}
 use Rattle.frame.proofs.Accepting.{judged}
+use Rattle.refusals.proofs.Numbers.{above_zero}
 use Rattle.profile.proofs.Pairs.{profile_refused, profile_judged}
 use native.Mathlib.Omega.{arith}
 use Rattle.profile.proofs.judge.Goals as goal
 
-pub returns-then-refusal-ne0 : goal.returns-then-refusal-ne0
-returns-then-refusal-ne0 c = profile_refused _ _ c.judge-refusal.ensures c.if-refusal-ne0.true
+pub returns-in_err-judge : goal.returns-in_err-judge
+returns-in_err-judge c =
+    let p = err_from_is_err_and c.from_residual.result c.from_residual.ensures.1 in
+    rw (p.1, p.2) (profile_refused _ _ c.in_err-judge.ensures (above_zero _))
 
-pub slice_bounds-number-end : goal.slice_bounds-number-end
-slice_bounds-number-end c =
-    let w = (judged _ _ c.judge-refusal.ensures c.if-refusal-ne0.false).whole in
-    sym (length-take-le 6144 c.args.frame.now (omega (arith, w)))
+pub slice_bounds-of-end : goal.slice_bounds-of-end
+slice_bounds-of-end c = sym (length-take-le 6144 c.args.frame.now (omega (arith, (judged _ 0 c.in_ok-judge.ensures refl).whole)))
 
-pub number-requires : goal.number-requires
-number-requires c =
-    omega (arith, c.fc-fc.ensures.nst, (judged _ _ c.judge-refusal.ensures c.if-refusal-ne0.false).streams)
+pub of-requires : goal.of-requires
+of-requires c = omega (arith, c.from.ensures, c.fc-fc.ensures.nst, (judged _ 0 c.in_ok-judge.ensures refl).streams)
 
 pub returns : goal.returns
 returns c =
-    let e = c.judge-refusal.ensures in
-    let z = c.if-refusal-ne0.false in
-    profile_judged _ _ e z _ _ _ (take_all 6144 _ (omega (arith, (judged _ _ e z).whole))) c.fc-fc.ensures.nst c.number.ensures
+    let e = c.in_ok-judge.ensures in
+    profile_judged _ 0 e refl _ _ _ (take_all 6144 _ (omega (arith, (judged _ 0 e refl).whole))) (c.from.ensures ∙ c.fc-fc.ensures.nst) (c.judge-2.ensures ∙ ap (λ (ps : List Place). first (place_rules ps)) c.of.ensures.1)

@@ -13,5 +13,5 @@ overflow_cast-result c = omega (arith, unequal_le (c.args.low / 1024) (c.args.lo
 pub returns-then-low-lt32768 : goal.returns-then-low-lt32768
 returns-then-low-lt32768 c = (c.units.ensures.0, omega (arith, unequal_le (c.args.low / 1024) (c.args.low % 1024) (omega arith), c.units.ensures.0))
 
-pub returns : goal.returns
-returns c = (c.equal_units.ensures.0 ∙ equal_whole _ c.if-low-lt32768.false, c.equal_units.ensures.1)
+pub returns-else-low-lt32768 : goal.returns-else-low-lt32768
+returns-else-low-lt32768 c = (c.equal_units.ensures.0 ∙ equal_whole _ c.if-low-lt32768.false, c.equal_units.ensures.1)

@@ -1,31 +1,24 @@
-use mathlib.Core.Path.{refl, ap, ◌∙◌}
-use native.Mathlib.Omega.{arith}
-use borrow.Author.Rules.{rules}
-use lib.ListN.{length-set}
+-- `putting::put_bytes` meets its contract: where there is room, a part of the slice is written over; where there is none, nothing is.
+use Rattle.std.proofs.Common.{arith, refl, sym, ap, ◌∙◌, ℕ, ◌+◌, List, ◌++◌, length, take, drop}
+use native.Mathlib.Nat.{le_refl}
 use lib.Seq.{take_all}
-use Rattle.octets.specs.Stores.{put}
-use Rattle.octets.proofs.Storing.{put_none, put_short, copy_more}
+use Rattle.std.proofs.lemmas.Slice.{put_mid-paste}
+use Rattle.octets.proofs.Storing.{put_room, put_short}
 use Rattle.putting.proofs.put_bytes.Goals as goal
+use Rattle.putting.proofs.put_bytes.Goals.{else-at-out-via-then-at-out+else-bytes-out, else-at-out-via-else-at-out}
 
-pub returns-then-len-n : goal.returns-then-len-n
-returns-then-len-n c = put_short _ _ _ (search rules)
-
-pub returns-then-at-len : goal.returns-then-at-len
-returns-then-at-len c = put_short _ _ _ (search rules)
-
-pub loop-i-init : goal.loop-i-init
-loop-i-init c = (search rules, refl, put_none _ _ (omega arith))
-
-pub loop-i-preserved : goal.loop-i-preserved
-loop-i-preserved c =
+pub returns-then-bytes-out : goal.returns-then-bytes-out
+returns-then-bytes-out c =
     let l = c.args.out.now in
-    let m = c.args.bytes.now in (
-      search rules,
-      simp length-set c.loop-i.invariant.1,
-      rw c.loop-i.invariant.2 (copy_more l c.args.at m c.loop-i.i (omega arith) (search rules)),
-    )
+    let us = c.args.bytes.now in
+    let at = c.args.at in
+    put_mid-paste at _ l _ us (length us) c.copy_from_slice.ensures.after (omega arith) refl
+    ∙ ap (λ (r : List ℕ). take at l ++ r ++ drop (at + length us) l) (take_all (length us) us (le_refl (length us)))
+    ∙ sym (put_room l at us (omega arith))
 
-pub returns : goal.returns
-returns c =
-    c.loop-i.invariant.2
-    ∙ ap (put c.args.out.now c.args.at) (take_all c.loop-i.i c.args.bytes.now c.loop-i-test.false)
+pub returns-else-at-out : goal.returns-else-at-out
+returns-else-at-out c =
+    elim c.else-at-out.branch [
+      | else-at-out-via-then-at-out+else-bytes-out w ↦ put_short _ _ _ (omega arith)
+      | else-at-out-via-else-at-out w ↦ put_short _ _ _ (omega arith)
+    ]

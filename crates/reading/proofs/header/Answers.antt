@@ -25,5 +25,5 @@ returns c =
       ← c.timestamp-timestamp.ensures,
       ← c.level.ensures,
       ← c.handed.ensures,
-      ← c.fsync.ensures,
+      ← c.is_fsync1.ensures,
     )

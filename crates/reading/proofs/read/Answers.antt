@@ -1,15 +1,18 @@
-use mathlib.Core.Path.{ap}
+use mathlib.Core.Path.{ap, sym}
 use Rattle.frame.specs.declared.Header.{Header}
 use Rattle.frame.specs.Answers.{header_for}
-use Rattle.reading.proofs.Answering.{read_accepted}
-use Rattle.frame.proofs.Accepting.{judged}
+use Rattle.reading.proofs.Answering.{read_accepted, read_refused}
+use Rattle.frame.proofs.Accepting.{acceptable}
 use native.Mathlib.Omega.{arith}
 use Rattle.reading.proofs.read.Goals as goal
 
 pub table-table-requires : goal.table-table-requires
 unfolding header_for
-table-table-requires c = let e = ap (λ (h : Header). h.nst) c.header-header.ensures in omega (arith, (judged _ _ c.judge-refusal.ensures c.if-refusal-ne0.false).streams)
+table-table-requires c = let e = ap (λ (h : Header). h.nst) c.header-header.ensures in omega (arith, (acceptable _ (sym c.in-Ok.ensures)).streams)
 
-pub returns : goal.returns
+pub returns-in-Ok : goal.returns-in-Ok
 unfolding header_for
-returns c = let e = ap (λ (h : Header). h.nst) c.header-header.ensures in read_accepted _ _ c.judge-refusal.ensures c.if-refusal-ne0.false _ _ c.header-header.ensures (rw (c.table-table.ensures, e))
+returns-in-Ok c = let e = ap (λ (h : Header). h.nst) c.header-header.ensures in read_accepted _ _ _ c.in-Ok.ensures c.header-header.ensures (rw (c.table-table.ensures, e))
+
+pub returns-in-Err : goal.returns-in-Err
+returns-in-Err c = read_refused _ _ _ c.in-Err.ensures c.no_streams.ensures

@@ -4,6 +4,6 @@ use Rattle.relay.proofs.again.Goals as goal
 
 pub returns : goal.returns
 returns c =
-    relays c.args.frame.now c.requires.0 (λ k. omega (arith, c.shared_slice_known-1.given k)) _ _ _ _ _ c.requires.1
+    relays c.args.frame.now c.requires.0 (λ k. omega (arith, c.type_inv.frame k)) _ _ _ _ _ c.requires.1
     (main_for_lem c.args.frame _ c.requires.0 c.main_stream.ensures)
     c.write.ensures

@@ -1,19 +1,15 @@
--- `ring::long` meets its contract: the ring, once the register is added to two bytes, and the end.
+-- `ring::long` meets its contract: the register's word is added to two bytes, and the end.
 -- Assumes nothing.
-use mathlib.Core.Path.{◌≡◌, ap, ◌∙◌}
-use Prim.Native.Nat.{◌-◌, ◌≤◌}
-use borrow.Author.Rules.{rules}
-use lib.ListN.{length, take}
-use Rattle.sum.specs.Sum.{after, word}
-use Rattle.stretch.proofs.Stretching.{whole}
+use mathlib.Core.Path.{◌≡◌}
+use Prim.Native.Nat.{◌/◌, ◌%◌, ◌^◌}
+use native.Mathlib.Omega.{arith}
+use Rattle.stretch.specs.Stretch.{after_rows}
 use Rattle.ring.proofs.Feedback.{begun}
 use Rattle.ring.proofs.long.Goals as goal
 
 pub returns : goal.returns
 returns c = λ s e.
-    let xs = c.args.bytes.now in
-    let n = length xs - 256 in
-    let h : n ≤ length xs = search rules in
-    let z : length xs - n ≡ 256 = search rules in
-    c.closed.ensures (after s (take n xs)) (c.rounds.ensures.same s (begun s c.args.start c.ranges.start.fits e))
-    ∙ ap word (rw z at (whole s xs n h))
+    let w = c.args.start in
+    let high : w / 256 ^ 1 % 256 ≡ w / 2 ^ 8 = omega arith in
+    c.closed.ensures (after_rows s c.args.rows.now)
+    (c.rounds.ensures s (rw (c.copy_from_slice.ensures.after, c.to_be_bytes.ensures, high) (begun s w c.ranges.start.fits e)))

@@ -1,26 +1,23 @@
 -- `ring::many` meets its contract: each way feeds all the bytes to a register of ones.
 -- Assumes nothing.
 use mathlib.Core.Path.{refl, sym}
-use Prim.Native.Nat.{◌%◌, ◌≤◌}
 use native.Mathlib.Nat.{le_refl}
-use borrow.Author.Rules.{rules}
-use lib.ListN.{length, take}
+use lib.ListN.{length}
 use lib.Seq.{take_all}
 use Rattle.sum.specs.Sum.{ones, after, sum_of}
 use Rattle.sum.proofs.SumLaws.{inverse}
-use Rattle.stretch.proofs.Stretching.{whole}
+use Rattle.ring.proofs.Between.{by_rows}
 use Rattle.ring.proofs.many.Goals as goal
 
-pub returns-then-len-lt512 : goal.returns-then-len-lt512
+pub returns-in-Some : goal.returns-in-Some
 unfolding sum_of
-returns-then-len-lt512 c =
+returns-in-Some c =
     let xs = c.args.bytes.now in
-    rw (c.fed.ensures ones refl, take_all (length xs) xs (le_refl (length xs))) (sym (inverse (after ones xs)))
+    let rows = c.as_rchunks.ensures in
+    rw (c.long.ensures _ (c.fed.ensures ones refl), by_rows ones xs _ _ _ _ rows.front rows.back c.in-Some.ensures.cases.0) (sym (inverse (after ones xs)))
 
-pub returns : goal.returns
+pub returns-in_default : goal.returns-in_default
 unfolding sum_of
-returns c =
+returns-in_default c =
     let xs = c.args.bytes.now in
-    let n = length xs % 256 in
-    let h : n ≤ length xs = search rules in
-    rw (c.long.ensures (after ones (take n xs)) (c.fed-2.ensures ones refl), whole ones xs n h) (sym (inverse (after ones xs)))
+    rw (c.fed-in_default.ensures ones refl, take_all (length xs) xs (le_refl (length xs))) (sym (inverse (after ones xs)))

@@ -1,23 +1,15 @@
--- `ring::run` meets its contract. The loop's invariant: the ring, turned on by k, stands for the register after k bytes, and the two other places go along with k; the measure is what is left of the run.
+-- `ring::run` meets its contract. The loop's invariant: the ring, turned on by the places passed, stands for the register after as many bytes.
 -- Assumes nothing.
-use native.Mathlib.Nat.{le_antisymm}
+use mathlib.Core.Path.{◌≡◌}
+use Prim.Native.Nat.{◌+◌}
+use native.Mathlib.Omega.{arith}
 use borrow.Author.Rules.{rules}
 use Rattle.ring.proofs.Turning.{turn_more}
 use Rattle.ring.proofs.run.Goals as goal
 
 pub loop-k-preserved : goal.loop-k-preserved
-loop-k-preserved c =
-    let at = c.loop-k in (
-      search rules,
-      search rules,
-      search rules,
-      search rules,
-      c.one.ensures.w_len,
-      λ u t. turn_more u c.args.bytes.now c.args.i at.w _ at.k c.requires.inside (search rules) c.one.ensures.w_len c.one.ensures.same (at.invariant.5 u t),
-    )
-
-pub returns : goal.returns
-returns c =
+loop-k-preserved c = λ u t.
     let at = c.loop-k in
-    let l = le_antisymm at.invariant.1 c.loop-k-test.false in
-    record { w_len = at.invariant.4; by_index = λ u t. rw l at (at.invariant.5 u t) }
+    let from = c.args.from in
+    let e : from + at.k + 1 ≡ from + (at.k + 1) = omega arith in
+    rw e at (turn_more u c.args.bytes.now at.w c.one.new.w (from + at.k) (search rules) c.one.ensures (at.invariant u t))

@@ -2,4 +2,4 @@ use Rattle.sending.proofs.Stored.{carried}
 use Rattle.sending.proofs.send.Goals as goal
 
 pub put_groups-requires : goal.put_groups-requires
-put_groups-requires c = carried _ _ _ c.send_refusal-refusal.ensures c.if-refusal-ne0.false
+put_groups-requires c = carried _ _ c.in_ok-send_refusal.ensures

@@ -1,6 +1,12 @@
-use Rattle.signalling.proofs.Register.{fed_two}
-use borrow.Author.Rules.{rules}
+use Rattle.std.proofs.Common.{rules, sym, ◌∙◌, ap}
+use Rattle.std.proofs.lemmas.List.{take_more}
+use Rattle.signalling.specs.OnNumbers.{fed}
+use Rattle.signalling.proofs.Register.{fed_none, fed_more}
 use Rattle.signalling.proofs.more.Goals as goal
 
-pub returns : goal.returns
-returns c = fed_two _ _ _ _ _ (search rules) c.step-a.ensures c.step.ensures
+pub loop-b-init : goal.loop-b-init
+loop-b-init c = fed_none _ (search rules)
+
+pub loop-b-preserved : goal.loop-b-preserved
+loop-b-preserved c =
+    fed_more _ _ _ _ _ c.loop-b.invariant c.step-register.ensures ∙ ap (fed c.args.crc) (sym (take_more c.args.bytes.now c.loop-b.b-index 0 c.loop-b-test.true))

@@ -3,6 +3,5 @@ use Rattle.sorting.proofs.sort.Goals as goal
 
 pub returns : goal.returns
 returns c =
-    let y = c.pass-notes.ensures in
-    let e = c.if-notes.false in
-    record { number = c.parts.ensures; placed = λ z. placed _ _ _ _ _ (y.noted e); high = λ z. y.high e }
+    let y = c.in_ok-notes.ensures in
+    record { number = c.in_ok-judge.ensures; placed = placed _ _ _ y.noted; high = y.high }

@@ -1,5 +1,5 @@
 -- `sum::sum` meets its contract. The loop's invariant: `crc` is the word of the register after the bytes passed.
--- The measure is what is left of the length. Assumes nothing.
+-- Assumes nothing.
 use mathlib.Core.Path.{sym, ◌∙◌}
 use Prim.Native.Nat.{◌<◌}
 use native.Mathlib.Numerals.{add-one}
@@ -11,16 +11,14 @@ use Rattle.sum.specs.Sum.{ones, after, sum_of}
 use Rattle.sum.proofs.SumLaws.{after_append, inverse}
 use Rattle.sum.proofs.sum.Goals as goal
 
-pub loop-i-preserved : goal.loop-i-preserved
-loop-i-preserved c = let xs = c.args.bytes.now in
-    let i = c.loop-i.i in
-    let h : i < length xs = search rules in (
-      search rules,
-      c.halves-crc.ensures (after ones (take i xs)) c.loop-i.invariant.1
-          ∙ rw (add-one, take-suc xs i 0, after_append ones (take i xs) (get_or xs i 0 ∷ [])),
-    )
+pub loop-b-preserved : goal.loop-b-preserved
+loop-b-preserved c = let xs = c.args.bytes.now in
+    let i = c.loop-b.b-index in
+    let h : i < length xs = search rules in
+    c.halves-crc.ensures (after ones (take i xs)) c.loop-b.invariant
+    ∙ rw (add-one, take-suc xs i 0, after_append ones (take i xs) (get_or xs i 0 ∷ []))
 
 pub returns : goal.returns
 unfolding sum_of
 returns c = let r = after ones c.args.bytes.now in
-    rw (c.loop-i.invariant.1, take_all c.loop-i.i _ c.loop-i-test.false) (sym (inverse r))
+    rw (c.loop-b.invariant, take_all c.loop-b.b-index _ c.loop-b-test.false) (sym (inverse r))

@@ -1,13 +1,9 @@
 -- `sum::sum` meets its contract. The loop's invariant: `crc` is the word of the register after the bytes passed.
--- The measure is what is left of the length. Assumes nothing.
+-- Assumes nothing.
 use mathlib.Core.Path.{◌≡◌}
-use Prim.Native.Nat.{◌≤◌, ◌-◌}
-use lib.ListN.{length, take}
+use lib.ListN.{take}
 use Rattle.sum.specs.Sum.{ones, after, word}
 use Rattle.sum.proofs.sum.Given as goal
 
-abbrev pub invariant-loop-i : goal.invariant-loop-i
-invariant-loop-i l = (l.i ≤ length l.bytes) × (l.crc ≡ word (after ones (take l.i l.bytes)))
-
-abbrev pub decreases-loop-i : goal.decreases-loop-i
-decreases-loop-i l = length l.bytes - l.i
+abbrev pub invariant-loop-b : goal.invariant-loop-b
+invariant-loop-b l = l.crc ≡ word (after ones (take l.b-index l.bytes))

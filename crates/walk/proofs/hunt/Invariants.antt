@@ -1,11 +1,10 @@
 use lib.ListN.{length}
 use Prim.Native.Nat.{suc, ◌-◌}
-use mathlib.Core.Path.{◌≡◌}
 use Rattle.walk.proofs.Stepping.{Same}
 use Rattle.walk.proofs.hunt.Given as goal
 
-abbrev pub invariant-loop-p : goal.invariant-loop-p
-invariant-loop-p l = (l.n ≡ length l.bytes) × Same l.bytes l.from l.p
+abbrev pub invariant-loop-from : goal.invariant-loop-from
+invariant-loop-from l = Same l.bytes l.from l.p
 
-abbrev pub decreases-loop-p : goal.decreases-loop-p
-decreases-loop-p l = suc l.n - l.p
+abbrev pub decreases-loop-from : goal.decreases-loop-from
+decreases-loop-from l = suc (length l.bytes) - l.p

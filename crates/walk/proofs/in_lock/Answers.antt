@@ -1,23 +1,28 @@
-use mathlib.Core.Path.{refl, sym, ◌∙◌}
+use borrow.Author.Rules.{rules}
+use mathlib.Core.Path.{refl, sym, ap, ◌∙◌}
 use native.Mathlib.Omega.{arith}
 use mathlib.Core.Logic.{inl, inr}
-use Rattle.walk.proofs.Stepping.{over_done, lock_stands, lock_null}
+use Rattle.refusals.specs.Refusals.{refusal_number}
+use Rattle.walk.specs.Walk.{locked}
+use Rattle.walk.specs.StepClauses.{Spent}
+use Rattle.walk.proofs.Stepping.{over_done, idle_bare, lock_stands, lock_null}
 use Rattle.walk.proofs.in_lock.Goals as goal
+use Rattle.walk.proofs.in_lock.Goals.{then-misses-limit-via-then-misses-limit, then-misses-limit-via-else-misses-limit+then-not-whole}
 
 pub returns-then-misses-limit : goal.returns-then-misses-limit
-returns-then-misses-limit c = c.done_step.ensures c.args.bytes.now ∙ over_done _ _ _ (inr (refl, omega arith)) _ c.lock_at-position.ensures
+returns-then-misses-limit c =
+    let spent : Spent c.args.limit c.args.bytes.now (locked c.args.p c.args.misses) =
+    elim c.then-misses-limit.branch [
+      | then-misses-limit-via-then-misses-limit w ↦ inr (refl, omega arith)
+      | then-misses-limit-via-else-misses-limit+then-not-whole w ↦ inl (w.whole.ensures.1 w.if-not-whole.true)
+    ] in
+    c.done.ensures c.args.bytes.now ∙ over_done _ _ _ spent _ c.locked.ensures
 
-pub returns-then-n-lt6144 : goal.returns-then-n-lt6144
-returns-then-n-lt6144 c = c.done_step-then-n-lt6144.ensures c.args.bytes.now ∙ over_done _ _ _ (inl (omega arith)) _ c.lock_at-position.ensures
+pub returns-in-Ok : goal.returns-in-Ok
+returns-in-Ok c = c.frame_step.ensures ∙ lock_stands _ c.args.bytes.now _ _ (search rules) (omega arith) (sym c.in-Ok.ensures)
 
-pub returns-then-p-n : goal.returns-then-p-n
-returns-then-p-n c = c.done_step-then-p-n.ensures c.args.bytes.now ∙ over_done _ _ _ (inl (omega arith)) _ c.lock_at-position.ensures
-
-pub returns-then-refusal-eq0 : goal.returns-then-refusal-eq0
-returns-then-refusal-eq0 c =
-    c.frame_step.ensures ∙ lock_stands _ c.args.bytes.now _ _ (omega arith) (omega arith) (sym c.judge_at-refusal.ensures ∙ c.if-refusal-eq0.true)
-
-pub returns-then-refusal-eq4 : goal.returns-then-refusal-eq4
-returns-then-refusal-eq4 c =
-    c.idle_step.ensures c.args.bytes.now
-    ∙ lock_null _ c.args.bytes.now _ _ (omega arith) (omega arith) (sym c.judge_at-refusal.ensures ∙ c.if-refusal-eq4.true) _ c.lock_at.ensures
+pub returns-in-Err-Null : goal.returns-in-Err-Null
+returns-in-Err-Null c =
+    c.no_frame.ensures
+    ∙ idle_bare c.args.bytes.now _ _
+    ∙ lock_null _ c.args.bytes.now _ _ (search rules) (omega arith) (sym c.in-Err-Null.ensures ∙ ap refusal_number c.in-Err-Null.field-0-is) _ c.locked-in-Err-Null.ensures

@@ -1,12 +1,9 @@
-use native.Mathlib.Omega.{arith}
-use Rattle.walk.proofs.Limits.{too_small, too_large, just_right}
+use borrow.Author.Rules.{rules}
+use Rattle.walk.proofs.Limits.{just_right, outside}
 use Rattle.walk.proofs.limit_refusal.Goals as goal
 
-pub returns-then-limit-lt1 : goal.returns-then-limit-lt1
-returns-then-limit-lt1 c = too_small _ (omega arith)
+pub returns-then-contains : goal.returns-then-contains
+returns-then-contains c = just_right _ (search rules, search rules)
 
-pub returns-then-limit-gt8 : goal.returns-then-limit-gt8
-returns-then-limit-gt8 c = too_large _ (omega arith)
-
-pub returns : goal.returns
-returns c = just_right _ (omega arith, omega arith)
+pub returns-else-contains : goal.returns-else-contains
+returns-else-contains c = outside _ (λ a. let x = a.0 in let y = a.1 in search rules)

@@ -1,21 +1,13 @@
--- `walker::ends` meets its contract, item by item.
+-- `walker::ends` meets its contract.
 -- Assumes nothing.
 use borrow.Author.Rules.{rules}
 use Rattle.walker.specs.NthClauses.{ends_at}
+use Rattle.walker.proofs.Turns.{ends_not_done}
 use Rattle.walker.proofs.ends.Goals as goal
-
-pub returns-in-Frame : goal.returns-in-Frame
-unfolding ends_at
-returns-in-Frame c = rw c.in-Frame.is
-
-pub returns-in-Lost : goal.returns-in-Lost
-unfolding ends_at
-returns-in-Lost c = rw c.in-Lost.is
-
-pub returns-in-Idle : goal.returns-in-Idle
-unfolding ends_at
-returns-in-Idle c = rw c.in-Idle.is
 
 pub returns-in-Done : goal.returns-in-Done
 unfolding ends_at
 returns-in-Done c = search rules
+
+pub returns-in_default : goal.returns-in_default
+returns-in_default c = ends_not_done _ _ c.in_default.not-Done

@@ -1,16 +1,17 @@
-use native.Mathlib.Omega.{arith}
-use Rattle.why.proofs.Asking.{not_begun, outside, answered}
+use borrow.Author.Rules.{rules}
+use Rattle.std.proofs.lemmas.Result.{err_from_is_err_and}
+use Rattle.why.proofs.Asking.{not_begun, outside, asked, answered}
 use Rattle.why.proofs.why.Goals as goal
 
-pub returns-then-n-lt6144 : goal.returns-then-n-lt6144
-returns-then-n-lt6144 c = outside _ _ _ _ c.begin-begun.ensures _ c.in-Walk.is (omega arith)
+pub returns-in_err-start : goal.returns-in_err-start
+returns-in_err-start c =
+    let p = err_from_is_err_and c.from_residual.result c.from_residual.ensures.1 in rw (p.1, p.2) (not_begun _ _ _ _ c.in_err-start.ensures)
 
-pub returns-then-place-n : goal.returns-then-place-n
-returns-then-place-n c = outside _ _ _ _ c.begin-begun.ensures _ c.in-Walk.is (omega arith)
+pub returns-then-not-whole : goal.returns-then-not-whole
+returns-then-not-whole c = outside _ _ _ _ c.in_ok-start.ensures (search rules)
 
-pub returns-in-Refused : goal.returns-in-Refused
-returns-in-Refused c = not_begun _ _ _ _ c.begin-begun.ensures _ c.in-Refused.is
+pub reason_at-requires : goal.reason_at-requires
+reason_at-requires c = asked _ _ _ _ c.in_ok-start.ensures (search rules)
 
-pub returns-else-place-n : goal.returns-else-place-n
-returns-else-place-n c =
-    answered _ _ _ _ c.begin-begun.ensures _ c.in-Walk.is (omega arith) _ c.reason_at.ensures
+pub returns : goal.returns
+returns c = answered _ _ _ _ c.in_ok-start.ensures (search rules) _ c.reason_at.ensures

@@ -11,7 +11,7 @@ use Rattle.writing.proofs.put_streams.Goals as goal
 
 pub loop-i-init : goal.loop-i-init
 unfolding streams_bytes
-loop-i-init c = (search rules, refl, put_none c.args.out.now 8 (search rules))
+loop-i-init c = (refl, put_none c.args.out.now 8 (search rules))
 
 pub loop-i-preserved : goal.loop-i-preserved
 loop-i-preserved c =
@@ -21,5 +21,5 @@ loop-i-preserved c =
     let i = c.loop-i.i in
     let stored : c.put4.new.out ≡ put l 8 (streams_bytes (take (i + 1) t)) =
     c.put4.ensures
-    ∙ rw c.loop-i.invariant.2 (streams_more l t i _ (search rules) e (omega arith) c.stream_word.ensures) in
-    (search rules, search rules, stored)
+    ∙ rw c.loop-i.invariant.1 (streams_more l t i _ (search rules) e (omega arith) c.stream_word.ensures) in
+    (search rules, stored)

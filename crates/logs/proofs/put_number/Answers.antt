@@ -1,7 +1,0 @@
-use mathlib.Core.List.{[]}
-use Rattle.octets.proofs.Storing.{stores}
-use borrow.Author.Rules.{rules}
-use Rattle.logs.proofs.put_number.Goals as goal
-
-pub returns : goal.returns
-returns c = stores _ 0 _ [] (search rules)

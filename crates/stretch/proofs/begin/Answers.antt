@@ -1,7 +1,0 @@
--- `stretch::begin` meets its contract: its word is added to the next two bytes.
--- Assumes nothing.
-use Rattle.stretch.proofs.Stretching.{begun}
-use Rattle.stretch.proofs.begin.Goals as goal
-
-pub returns : goal.returns
-returns c = λ s e. record { ahead = begun s c.args.crc c.ranges.crc.fits e }
