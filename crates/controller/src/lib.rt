@@ -4,7 +4,6 @@
 ghost use Rattle.std.specs.Prelude.{◌≡◌};
 ghost use Rattle.frame.specs.Rules.{refusal_of, stream_refusal_of, fic_part, stream_part};
 ghost use Rattle.encoded.specs.AnswerBytes.{answer_of};
-ghost use Rattle.refusals.specs.Refusals.{outcome_number};
 ghost use Rattle.controller.specs.Boundary.{part_bytes, Told};
 
 use frame::Span;
@@ -38,28 +37,20 @@ fn in_bytes(part: Span) -> [u8; 4]
     [start[6], start[7], len[6], len[7]]
 }
 
-// What an export answers to a request for a part; granted, the answer bytes hold the part's place and length.
-fn tell_part(answer: &mut [u8], request: Result<(), Refusal>, part: Span) -> u8
-    ensures { Told 4 (outcome_number request) (part_bytes part) answer.old answer.new result }
-{
-    if answer.len() != 4 {
-        return Refusal::Length.number();
-    }
-    match request {
-        Ok(()) => {
-            answer.copy_from_slice(&in_bytes(part));
-            0
-        }
-        Err(refusal) => refusal.number(),
-    }
-}
-
-// The refusal number of a request for the FIC; where it is 0, the answer bytes hold the FIC's place and length.
+// The refusal number of a request for the FIC; where it is 0, the answer bytes hold the FIC's place and length. No frame is looked at for an answer of
+// another length, and none that is refused a second time.
 #[unsafe(no_mangle)]
 pub extern "C" fn spindlewren_fic(frame: &[u8], answer: &mut [u8]) -> u8
     ensures { Told 4 (refusal_of frame.now) (part_bytes (fic_part frame.now)) answer.old answer.new result }
 {
-    tell_part(answer, spans::fic_refusal(frame), spans::fic_place(frame))
+    if answer.len() != 4 {
+        return Refusal::Length.number();
+    }
+    if let Err(refusal) = spans::fic_refusal(frame) {
+        return refusal.number();
+    }
+    answer.copy_from_slice(&in_bytes(spans::fic_place(frame)));
+    0
 }
 
 // Likewise for stream i.
@@ -67,9 +58,12 @@ pub extern "C" fn spindlewren_fic(frame: &[u8], answer: &mut [u8]) -> u8
 pub extern "C" fn spindlewren_stream(frame: &[u8], i: usize, answer: &mut [u8]) -> u8
     ensures { Told 4 (stream_refusal_of frame.now i) (part_bytes (stream_part frame.now i)) answer.old answer.new result }
 {
-    tell_part(
-        answer,
-        spans::stream_refusal(frame, i),
-        spans::stream_place(frame, i),
-    )
+    if answer.len() != 4 {
+        return Refusal::Length.number();
+    }
+    if let Err(refusal) = spans::stream_refusal(frame, i) {
+        return refusal.number();
+    }
+    answer.copy_from_slice(&in_bytes(spans::stream_place(frame, i)));
+    0
 }

@@ -24,10 +24,13 @@ pub fn put8(out: &mut [u8], at: usize, n: usize)
     put_bytes(out, at, &usize::to_be_bytes(n));
 }
 
+// One by one and not by `copy_from_slice`, for which an archive for C would want `memmove`.
 pub fn put_bytes(out: &mut [u8], at: usize, bytes: &[u8])
     ensures { out.new ≡ put out.old at bytes.now }
 {
     if at <= out.len() && bytes.len() <= out.len() - at {
-        out[at..at + bytes.len()].copy_from_slice(bytes);
+        for (k, b) in bytes.iter().enumerate() {
+            out[at + k] = *b;
+        }
     }
 }

@@ -1,20 +1,32 @@
--- `putting::put_bytes` meets its contract: where there is room, a part of the slice is written over; where there is none, nothing is.
-use Rattle.std.proofs.Common.{arith, refl, sym, ap, ◌∙◌, ℕ, ◌+◌, List, ◌++◌, length, take, drop}
-use native.Mathlib.Nat.{le_refl}
-use lib.Seq.{take_all}
-use Rattle.std.proofs.lemmas.Slice.{put_mid-paste}
-use Rattle.octets.proofs.Storing.{put_room, put_short}
+-- `putting::put_bytes` meets its contract. The loop's invariant: the first k bytes stand in their place.
+use Rattle.std.proofs.Common.{arith, rules, refl, sym, ap, ◌∙◌, ℕ, ◌+◌, ◌≡◌, ◌≤◌, ◌<◌, List, length, take, set, get_or}
+use native.Mathlib.Numerals.{add-one}
+use lib.Seq.{take_all, take-suc, length-take-le}
+use Rattle.octets.specs.Stores.{put}
+use Rattle.octets.proofs.Storing.{put_none, put_length, put_more, put_short}
 use Rattle.putting.proofs.put_bytes.Goals as goal
 use Rattle.putting.proofs.put_bytes.Goals.{else-at-out-via-then-at-out+else-bytes-out, else-at-out-via-else-at-out}
 
-pub returns-then-bytes-out : goal.returns-then-bytes-out
-returns-then-bytes-out c =
+-- a turn of the loop
+copy_more : (l : List ℕ) (at : ℕ) (m : List ℕ) (i : ℕ) → at + length m ≤ length l → i < length m → set (put l at (take i m)) (at + i) (get_or m i 0) ≡ put l at (take (i + 1) m)
+copy_more l at m i h k =
+    let e : length (take i m) ≡ i = length-take-le i m (omega arith) in
+    rw (add-one i, take-suc m i 0 k)
+    (ap (λ (n : ℕ). set (put l at (take i m)) (at + n) (get_or m i 0)) (sym e) ∙ put_more l at (take i m) (get_or m i 0) (omega arith))
+
+pub loop-k-init : goal.loop-k-init
+loop-k-init c = put_none c.args.out.now c.args.at (omega arith)
+
+pub loop-k-preserved : goal.loop-k-preserved
+loop-k-preserved c =
     let l = c.args.out.now in
-    let us = c.args.bytes.now in
-    let at = c.args.at in
-    put_mid-paste at _ l _ us (length us) c.copy_from_slice.ensures.after (omega arith) refl
-    ∙ ap (λ (r : List ℕ). take at l ++ r ++ drop (at + length us) l) (take_all (length us) us (le_refl (length us)))
-    ∙ sym (put_room l at us (omega arith))
+    let m = c.args.bytes.now in
+    rw c.loop-k.invariant (copy_more l c.args.at m c.loop-k.k (omega arith) (search rules))
+
+pub returns-after-loop-k : goal.returns-after-loop-k
+returns-after-loop-k c =
+    c.loop-k.invariant
+    ∙ ap (put c.args.out.now c.args.at) (take_all c.loop-k.k c.args.bytes.now (omega arith))
 
 pub returns-else-at-out : goal.returns-else-at-out
 returns-else-at-out c =
