@@ -2,9 +2,8 @@
 #![tactic(auto)]
 
 ghost use Rattle.std.specs.Prelude.{true, ◌≡◌, ℕ, ◌+◌, ◌≤◌, ◌<◌, length};
-ghost use Rattle.frame.specs.Rules.{refusal_of};
-ghost use Rattle.walk.specs.Walk.{confirmed, look, hunting, locked};
-ghost use Rattle.walk.specs.Records.{part, judged};
+ghost use Rattle.walk.specs.Walk.{look, hunting, locked};
+ghost use Rattle.walk.specs.Records.{judged};
 ghost use Rattle.looks.specs.Testing.{tests_of, CountsTests};
 ghost use Rattle.looks.specs.CountClauses.{Counts};
 
@@ -16,16 +15,6 @@ use walk::Position;
 struct Tally {
     tests: usize,
     position: Position,
-}
-
-// Whether the place a period after p, which stands, confirms it. Not `walk::confirms`, which would judge p once more.
-fn followed(bytes: &[u8], p: usize) -> bool
-    requires { (p + 6144 ≤ length bytes.now) × (refusal_of (part bytes.now p) ≡ 0) }
-    ensures { (limit : ℕ) → result ≡ confirmed (judged limit bytes.now) p }
-{
-    let q = p + 6144;
-    periods::judge_at(bytes, q).is_ok()
-        && periods::fsync1_at(bytes, p) != periods::fsync1_at(bytes, q)
 }
 
 // Hunting from p: over the places that do not begin like a frame, which are counted and not judged, to one look.
@@ -47,7 +36,7 @@ fn look_hunting(bytes: &[u8], p: usize, misses: usize) -> Tally
             position: Position::hunting(q + 1, misses),
         };
     }
-    let position = if followed(bytes, q) {
+    let position = if walk::confirms(bytes, q) {
         Position::locked(q + 6144, 0)
     } else {
         Position::hunting(q + 1, misses)
