@@ -66,8 +66,9 @@ fn part(c: u128, d: u8, k: usize) -> u128
     u128::from(high) * 18446744073709551616 + u128::from(low)
 }
 
-// f times each coefficient: the exclusive or of the multiples by the bits of f.
-fn multiple(multiples: &[u128; 8], f: u8) -> u128
+// f times each coefficient: the exclusive or of the multiples by the bits of f. R is here for time alone: with an instance for each code the compiler knows
+// its multiples, and that those of five bytes have no high half.
+fn multiple<const R: usize>(multiples: &[u128; 8], f: u8) -> u128
     ensures { result ≡ by_bits multiples.now 8 f }
 {
     let mut sum = 0;
@@ -83,7 +84,7 @@ fn divide<const R: usize>(multiples: &[u128; 8], rest: u128, b: u8) -> u128
     ensures { (g : List ℕ) → length g ≡ R → Multiplies multiples.now g → bytes_high_first R result ≡ divide g (bytes_high_first R rest) b }
 {
     let f = b ^ ((rest >> (8 * R - 8)) % 256) as u8;
-    (rest << 8) ^ multiple(multiples, f)
+    (rest << 8) ^ multiple::<R>(multiples, f)
 }
 
 fn remainder<const R: usize>(multiples: &[u128; 8], info: &[u8]) -> u128
