@@ -17,10 +17,12 @@ pub extern "C" fn spindlewren_read(frame: &[u8], answer: &mut [u8]) -> u8
     if answer.len() != 406 {
         return Refusal::Length.number();
     }
+    // the table is named before the answer is looked at: otherwise it is copied, by C's memcpy
     let reading = reading::read(frame);
+    let table = reading.table;
     match reading.answer {
         Ok(header) => {
-            encoded::put_answer(answer, header, reading.table);
+            encoded::put_answer(answer, header, table);
             0
         }
         Err(refusal) => refusal.number(),
