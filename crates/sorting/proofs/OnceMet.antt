@@ -134,12 +134,12 @@ module _ (is : List Item) (b : some_bad is ≡ false) where
     parts_22 o = rw (b, m, o)
 
     module _ (o : each_once is (highest_in is) ≡ true) where
-      pub parts_35 : level_in (value_of 0 is) ≡ 4 → 35 ≡ first (item_rules_of is)
-      parts_35 l = rw (b, m, o, l)
+      -- a level of any other number than 0 to 3, and no level
+      pub parts_35 : (level : ℕ) → level ≡ level_in (value_of 0 is) → 3 < level → 35 ≡ first (item_rules_of is)
+      parts_35 level l h = rw (b, m, o, ← l, lt-ltb 3 level h)
 
-      -- a level of any other number than 0 to 3
-      pub parts_beyond : (level : ℕ) → level ≡ level_in (value_of 0 is) → 3 < level → 35 ≡ first (item_rules_of is)
-      parts_beyond level l h = rw (b, m, o, ← l, lt-ltb 3 level h)
+      pub parts_none : level_in (value_of 0 is) ≡ 4 → 35 ≡ first (item_rules_of is)
+      parts_none l = parts_35 4 (sym l) (omega arith)
 
       pub parts_0 : (level : ℕ) → level ≡ level_in (value_of 0 is) → level < 4 → 0 ≡ first (item_rules_of is)
       parts_0 level l h = rw (b, m, o, ← l, le-ltb 3 level (omega arith))
