@@ -7,10 +7,10 @@ use Rattle.std.proofs.Common.{◌++◌, cond, nat_lt, Option, Some, None, length
 use Rattle.std.proofs.lemmas.List.{get_or_append_left, get_or-append_right}
 use Rattle.std.proofs.lemmas.List.Recursion.{is_position_or_len}
 use Rattle.std.specs.List.{position, position_or_len}
-use Prim.Native.Nat.{ℕ, zero, suc, ◌+◌, ◌-◌, ◌*◌, ◌/◌, ◌%◌, ◌≤◌, ◌<◌}
+use Prim.Native.Nat.{ℕ, zero, suc, ◌+◌, ◌-◌, ◌*◌, ◌/◌, ◌%◌, ◌^◌, ◌≤◌, ◌<◌}
 use native.Mathlib.Nat.{zero-mul, mul-le-mul}
 use native.Mathlib.Omega.{arith}
-use borrow.Author.Tests.{eq-eqb, ne_eqb, eqb-true, eqb-false, le-ltb, ltb-false, le-leb, leb-true}
+use borrow.Author.Tests.{eq-eqb, ne_eqb, eqb-true, eqb-false, le-ltb, ltb-false, le-leb, lt-leb, leb-true}
 use lib.Dec.{eqb, ltb, leb}
 use lib.ListN.{get_or, get_or-eq_default}
 use Rattle.octets.specs.Choice.{pick, place_in}
@@ -31,7 +31,7 @@ at_most m [] h k = omega arith
 at_most m (x ∷ xs) h zero = leb-true x m (both (leb x m) (all_le m xs) h).0
 at_most m (x ∷ xs) h (suc k) = at_most m xs (both (leb x m) (all_le m xs) h).1 k
 
-size_le : (k : ℕ) → get_or unequal_sizes k 0 ≤ 416
+pub size_le : (k : ℕ) → get_or unequal_sizes k 0 ≤ 416
 unfolding unequal_sizes
 size_le k = at_most 416 unequal_sizes refl k
 
@@ -93,21 +93,44 @@ found_is n r e = go (nat_lt n 14) e
     go true e = cc
     go false e = cc
 
+module _ (index stl : ℕ) where
+  pub unequal_index : 4 < index → 0 ≡ unequal_size index stl
+  unfolding unequal_size
+  unequal_index h = rw (lt-leb index 4 h)
+
+  module _ (r : ℕ) (h : index ≤ 4) (e : r ≡ place_in stls stl) where
+    pub unequal_none : r ≡ 14 → 0 ≡ unequal_size index stl
+    unfolding unequal_size unequal_sizes
+    unequal_none z = rw (le-leb index 4 h) (sym (get_or-eq_default unequal_sizes 0 {n = 5 * place_in stls stl + (4 - index)} (omega arith)))
+
+    pub unequal_some : (v : ℕ) → v ≡ get_or unequal_sizes (5 * r + (4 - index)) 0 → v ≡ unequal_size index stl
+    unfolding unequal_size
+    unequal_some v q = rw (le-leb index 4 h, ← e) q
+
+-- 4, 2, 1, 0: what level 4 has, and so many times the step
+pub quarter_le : (l : ℕ) → l < 4 → 4 / 2 ^ l ≤ 4
+quarter_le zero h = omega arith
+quarter_le (suc zero) h = omega arith
+quarter_le (suc (suc zero)) h = omega arith
+quarter_le (suc (suc (suc zero))) h = omega arith
+quarter_le (suc (suc (suc (suc l)))) h = absurd (omega arith)
+
+-- the same by a search for the row
 module _ (index stl : ℕ) (h : index ≤ 4) where
-  pub unequal_none : None ≡ position (λ s. eqb stl s) stls → 0 ≡ unequal_size index stl
+  pub unequal_absent : None ≡ position (λ s. eqb stl s) stls → 0 ≡ unequal_size index stl
   unfolding unequal_size unequal_sizes
-  unequal_none z =
+  unequal_absent z =
       let k = not_found (place_in stls stl) (z ∙ sought stl) in
       rw (le-leb index 4 h) (sym (get_or-eq_default unequal_sizes 0 {n = 5 * place_in stls stl + (4 - index)} (omega arith)))
 
-  pub unequal_some : (r v : ℕ) → Some r ≡ position (λ s. eqb stl s) stls → v ≡ get_or unequal_sizes (5 * r + (4 - index)) 0 → v ≡ unequal_size index stl
+  pub unequal_found : (r v : ℕ) → Some r ≡ position (λ s. eqb stl s) stls → v ≡ get_or unequal_sizes (5 * r + (4 - index)) 0 → v ≡ unequal_size index stl
   unfolding unequal_size
-  unequal_some r v z q = rw (le-leb index 4 h, ← found_is (place_in stls stl) r (z ∙ sought stl)) q
+  unequal_found r v z q = rw (le-leb index 4 h, ← found_is (place_in stls stl) r (z ∙ sought stl)) q
 
-per_none : (unit each stl : ℕ) → (stl % unit ≡ 0 → ⊥) → 0 ≡ per_n unit each stl
+pub per_none : (unit each stl : ℕ) → (stl % unit ≡ 0 → ⊥) → 0 ≡ per_n unit each stl
 per_none unit each stl h = rw (ne_eqb (stl % unit) 0 h)
 
-per_some : (unit each stl : ℕ) → stl % unit ≡ 0 → stl / unit * each ≡ per_n unit each stl
+pub per_some : (unit each stl : ℕ) → stl % unit ≡ 0 → stl / unit * each ≡ per_n unit each stl
 per_some unit each stl h = rw (eq-eqb (stl % unit) 0 h)
 
 module _ (option index stl each v : ℕ) where
@@ -119,7 +142,7 @@ module _ (option index stl each v : ℕ) where
   unfolding equal_size
   equal_b_lem n o e q = rw (ne_eqb option 0 n, eq-eqb option 1 o, ← e) q
 
-equal_none : (option index stl : ℕ) → (option ≡ 0 → ⊥) → (option ≡ 1 → ⊥) → 0 ≡ equal_size option index stl
+pub equal_none : (option index stl : ℕ) → (option ≡ 0 → ⊥) → (option ≡ 1 → ⊥) → 0 ≡ equal_size option index stl
 unfolding equal_size
 equal_none option index stl n o = rw (ne_eqb option 0 n, ne_eqb option 1 o)
 
@@ -127,6 +150,14 @@ module _ (tpl stl v : ℕ) where
   pub size_equal : (tpl / 32 % 2 ≡ 0 → ⊥) → v ≡ equal_size (tpl / 4 % 8) (tpl % 4) stl → v ≡ size_by tpl stl
   unfolding size_by
   size_equal h q = rw (ne_eqb (tpl / 32 % 2) 0 h) q
+
+  pub size_other : tpl / 32 % 2 ≡ 0 → (tpl / 8 % 2 ≡ 0 → ⊥) → 0 ≡ size_by tpl stl
+  unfolding size_by
+  size_other h k = rw (eq-eqb (tpl / 32 % 2) 0 h, ne_eqb (tpl / 8 % 2) 0 k)
+
+  pub size_unequal : tpl / 32 % 2 ≡ 0 → tpl / 8 % 2 ≡ 0 → v ≡ unequal_size (tpl % 8) stl → v ≡ size_by tpl stl
+  unfolding size_by
+  size_unequal h k q = rw (eq-eqb (tpl / 32 % 2) 0 h, eq-eqb (tpl / 8 % 2) 0 k) q
 
   pub taken_none : stl ≡ 0 → 0 ≡ units_by tpl stl
   unfolding units_by
@@ -148,7 +179,7 @@ unequal_le tpl stl h =
     (pick_le (eqb (tpl / 8 % 2) 0) _ 0 416 (pick_le (leb (tpl % 8) 4) (get_or unequal_sizes (5 * place_in stls stl + (4 - tpl % 8)) 0) 0 416 (size_le (5 * place_in stls stl + (4 - tpl % 8))) (omega arith)) (omega arith)))
 
 -- ---- equal protection from half a word
-part_le : (top most each n : ℕ) → each ≤ top → n ≤ most → n * each ≤ most * top
+pub part_le : (top most each n : ℕ) → each ≤ top → n ≤ most → n * each ≤ most * top
 part_le top most each n h k = mul-le-mul k h
 
 other_false : (a b : Bool) → (a && b) ≡ false → a ≡ true → b ≡ false

@@ -5,16 +5,17 @@ use mathlib.Core.Path.{◌≡◌, refl, sym, ap, ap₂, ◌∙◌}
 use mathlib.Core.List.{List, [], ◌∷◌, ◌++◌, map}
 use Prim.Native.Nat.{ℕ, zero, suc, ◌+◌, ◌-◌, ◌*◌, ◌/◌, ◌%◌, ◌^◌, ◌<◌, ◌≤◌}
 use mathlib.Core.Logic.{⊎_elim}
-use native.Mathlib.Nat.{div-one, mod-lt, mul-mod_left, pow-suc, eq-or-lt_of_le, le_of_suc-le-suc}
+use native.Mathlib.Nat.{div-one, mod-eq_of_lt, mod-lt, mul-mod_left, pow-suc, eq-or-lt_of_le, le_of_suc-le-suc}
 use native.Mathlib.Omega.{arith}
-use lib.Bits.{bit_xor, xor_lt}
+use lib.Bits.{bit_xor, xor_lt, xor_zero_r, xor_zero_l, xor_shr, xor_mod}
 use lib.Pow.{pow_pos, pow-add, shr-shr, shl-shr, field, mod-mod-pow}
 use lib.ListN.{length, get_or, take, drop, replicate}
 use lib.Seq.{take_all}
 use Rattle.std.specs.Int.{byte_at, bytes_high_first}
+use Rattle.octets.specs.Words.{total, split, bytes4, bytes8}
 use Rattle.linear.proofs.Linear.{Linear, right, low, then, xor, agree_below}
 use Rattle.linear.proofs.Row.{row, same}
-use Rattle.field.specs.Field.{times}
+use Rattle.field.specs.Field.{bit, scale, times}
 use Rattle.field.proofs.FieldLaws.{linear_l, bit_linear, at_zero}
 use Rattle.code.specs.Code.{◌⊞◌, divide}
 use Rattle.code.specs.CodeClauses.{by_bits, Multiplies}
@@ -115,3 +116,84 @@ divided (suc r) w m b t g p h k e q z =
     bytes_xor (suc r) (moved w) m
     ∙ ap₂ ◌⊞◌ (moved_bytes r w (omega arith))
     (ap (bytes_high_first (suc r)) (z ∙ ap (λ (y : ℕ). by_bits t 8 (bit_xor b y)) top) ∙ ap (λ (y : ℕ). bytes_high_first y (by_bits t 8 (bit_xor b (byte_at r w)))) (sym e) ∙ q (bit_xor b (byte_at r w)) f)
+
+-- ---- the same over numbers split into fields: the eight parts one by one, and a word of 64 bits moved up by a byte with another behind it
+abbrev pub bytes5 : List ℕ
+bytes5 = 8 ∷ 8 ∷ 8 ∷ 8 ∷ 8 ∷ []
+
+abbrev pub bytes6 : List ℕ
+bytes6 = 8 ∷ bytes5
+
+-- a byte for each coefficient
+abbrev eights : List ℕ → List ℕ
+eights = map (λ (g : ℕ). 8)
+
+abbrev fields_at : (ℕ → ℕ) → List ℕ → List (List ℕ)
+fields_at f [] = []
+fields_at f (g ∷ gs) = row (λ k. f (2 ^ k) / 2 ^ total (eights gs) % 2 ^ 8) 0 8 ∷ fields_at f gs
+
+multiples : {f : ℕ → ℕ} → Linear bit_xor f → (gs : List ℕ) → fields_at f gs ≡ products_at gs → (x : ℕ) → x < 2 ^ 8 → split (eights gs) (f x) ≡ map (times x) gs
+multiples p [] t x h = refl
+multiples {f} p (g ∷ gs) t x h =
+    ap₂ (λ (y : ℕ) (ys : List ℕ). y ∷ ys)
+    (agree_below (then (then p (right (total (eights gs)))) (low 8)) (linear_l g) 8 (same (λ k. f (2 ^ k) / 2 ^ total (eights gs) % 2 ^ 8) (λ k. times (2 ^ k) g) 8 (cc)) x h)
+    (multiples p gs (cc) x h)
+
+-- a constant for each of the eight bits of the argument, added as the code does
+abbrev part : ℕ → ℕ → ℕ → ℕ
+part c k f = scale (bit (f / 2 ^ k) 0) c
+
+part_linear : (c k : ℕ) → Linear bit_xor (part c k)
+part_linear c k = then (right k) (bit_linear 0 c)
+
+abbrev by_eight : List ℕ → ℕ → ℕ
+by_eight t f =
+    bit_xor (bit_xor (bit_xor (part (get_or t 0 0) 0 f) (part (get_or t 1 0) 1 f)) (bit_xor (part (get_or t 2 0) 2 f) (part (get_or t 3 0) 3 f)))
+    (bit_xor (bit_xor (part (get_or t 4 0) 4 f) (part (get_or t 5 0) 5 f)) (bit_xor (part (get_or t 6 0) 6 f) (part (get_or t 7 0) 7 f)))
+
+eight_linear : (t : List ℕ) → Linear bit_xor (by_eight t)
+eight_linear t =
+    xor (xor (xor (part_linear (get_or t 0 0) 0) (part_linear (get_or t 1 0) 1)) (xor (part_linear (get_or t 2 0) 2) (part_linear (get_or t 3 0) 3)))
+    (xor (xor (part_linear (get_or t 4 0) 4) (part_linear (get_or t 5 0) 5)) (xor (part_linear (get_or t 6 0) 6) (part_linear (get_or t 7 0) 7)))
+
+-- the sum of eight such parts
+pub sum_of : (t gs : List ℕ) → fields_at (by_eight t) gs ≡ products_at gs → (f p0 p1 p2 p3 p4 p5 p6 p7 : ℕ) → f < 2 ^ 8
+    → p0 ≡ scale (bit f 0) (get_or t 0 0) → p1 ≡ part (get_or t 1 0) 1 f → p2 ≡ part (get_or t 2 0) 2 f → p3 ≡ part (get_or t 3 0) 3 f
+    → p4 ≡ part (get_or t 4 0) 4 f → p5 ≡ part (get_or t 5 0) 5 f → p6 ≡ part (get_or t 6 0) 6 f → p7 ≡ part (get_or t 7 0) 7 f
+    → split (eights gs) (bit_xor (bit_xor (bit_xor p0 p1) (bit_xor p2 p3)) (bit_xor (bit_xor p4 p5) (bit_xor p6 p7))) ≡ map (times f) gs
+sum_of t gs q f p0 p1 p2 p3 p4 p5 p6 p7 h e0 e1 e2 e3 e4 e5 e6 e7 =
+    ap (split (eights gs))
+    (ap₂ bit_xor (ap₂ bit_xor (ap₂ bit_xor (e0 ∙ ap (λ (y : ℕ). scale (bit y 0) (get_or t 0 0)) (sym (div-one f))) e1) (ap₂ bit_xor e2 e3))
+    (ap₂ bit_xor (ap₂ bit_xor e4 e5) (ap₂ bit_xor e6 e7)))
+    ∙ multiples (eight_linear t) gs q f h
+
+module _ (w c : ℕ) (h : c < 2 ^ 8) where
+  abbrev joined : ℕ
+  joined = bit_xor (w * 2 ^ 8 % 2 ^ 64) c
+
+  joined_above : joined / 2 ^ 8 ≡ w % 2 ^ 56
+  joined_above =
+      let z : c / 2 ^ 8 ≡ 0 = omega arith in
+      xor_shr (w * 2 ^ 8 % 2 ^ 64) c 8
+      ∙ ap₂ bit_xor (field (w * 2 ^ 8) 56 8 ∙ ap (λ (y : ℕ). y % 2 ^ 56) (shl-shr w 8)) z
+      ∙ xor_zero_r (w % 2 ^ 56)
+
+  joined_up : (j k : ℕ) → j + 8 + k ≡ 56 → joined / 2 ^ (8 + k) % 2 ^ 8 ≡ w / 2 ^ k % 2 ^ 8
+  joined_up j k e =
+      ap (λ (y : ℕ). y % 2 ^ 8)
+      (sym (shr-shr joined 8 k) ∙ ap (λ (y : ℕ). y / 2 ^ k) (joined_above ∙ ap (λ (y : ℕ). w % 2 ^ y) (sym e)) ∙ field w (j + 8) k)
+      ∙ mod-mod-pow (w / 2 ^ k) j 8
+
+  joined_lowest : joined / 2 ^ 0 % 2 ^ 8 ≡ c
+  joined_lowest =
+      let z : w * 2 ^ 8 % 2 ^ 64 % 2 ^ 8 ≡ 0 = mod-mod-pow (w * 2 ^ 8) 56 8 ∙ mul-mod_left w (2 ^ 8) in
+      ap (λ (y : ℕ). y % 2 ^ 8) (div-one joined) ∙ xor_mod (w * 2 ^ 8 % 2 ^ 64) c 8 ∙ ap₂ bit_xor z (mod-eq_of_lt h) ∙ xor_zero_l c
+
+  pub moved5 : split bytes5 joined ≡ split bytes4 w ++ (c ∷ [])
+  moved5 = λ i. joined_up 24 24 refl i ∷ joined_up 32 16 refl i ∷ joined_up 40 8 refl i ∷ joined_up 48 0 refl i ∷ joined_lowest i ∷ []
+
+  pub moved6 : split bytes6 joined ≡ split bytes5 w ++ (c ∷ [])
+  moved6 = λ i. joined_up 16 32 refl i ∷ moved5 i
+
+  pub moved8 : split bytes8 joined ≡ split (8 ∷ bytes6) w ++ (c ∷ [])
+  moved8 = λ i. joined_up 0 48 refl i ∷ joined_up 8 40 refl i ∷ moved6 i

@@ -52,6 +52,10 @@ has_later t f n i = ltb (later_to t f n i) n
 pub one_told : (t : Place → Bool) (f : List ℕ) (i k : ℕ) (p : Place) (r b : Bool) → p ≡ place_at f k → k ≡ i → r ≡ t p → r ≡ b → of_one t f i ≡ b
 one_told t f i k p r b e z q d = sym (ap t (e ∙ ap (place_at f) z)) ∙ sym q ∙ d
 
+pub later_begins : (t : Place → Place → Bool) (f : List ℕ) (n i : ℕ) → i < n → Sought (of_two t f i) (i + 1) n (later_to t f n i)
+unfolding later_to
+later_begins t f n i h = (omega arith, refl)
+
 -- what stands behind stream i, looked for with its place at hand
 pub later_told : (t : Place → Place → Bool) (f : List ℕ) (n i j k : ℕ) (m : Place) → m ≡ place_at f k → k ≡ i → j ≡ seek_to (λ (a : ℕ). t m (place_at f a)) (i + 1) n → j ≡ later_to t f n i
 unfolding later_to

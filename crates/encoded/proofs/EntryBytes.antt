@@ -10,13 +10,20 @@ use Rattle.octets.specs.Stores.{put}
 use Rattle.octets.proofs.Storing.{put_chain, put_all, each_length, each_put}
 use Rattle.frame.specs.declared.Header.{Header}
 use Rattle.frame.specs.declared.Stream.{Stream}
-use Rattle.frame.specs.Answers.{digit, header_values, no_stream}
+use Rattle.frame.specs.declared.Timestamp.{Timestamp}
+use Rattle.frame.specs.declared.Timestamp.TheVariants.{Absent, Time, Reserved}
+use Rattle.frame.specs.Answers.{digit, sort_of, header_values, no_stream}
 use Rattle.encoded.specs.AnswerBytes.{encode, head_counts, first_counts, first_values, second_counts, second_values, third_counts, third_values, stream_bytes, table_bytes}
 
 -- a value of one byte is that byte
 pub digit_alone : (b : Bool) → digit b / 1 % 256 ≡ digit b
 digit_alone true = refl
 digit_alone false = refl
+
+pub sort_alone : (t : Timestamp) → sort_of t / 1 % 256 ≡ sort_of t
+sort_alone Absent = refl
+sort_alone (Time n) = refl
+sort_alone (Reserved n) = refl
 
 pub bytes_length : (ss : List Stream) → length (table_bytes ss) ≡ 6 * length ss
 unfolding table_bytes

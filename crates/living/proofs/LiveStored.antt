@@ -9,6 +9,7 @@ use lib.ListN.{length, get_or}
 use borrow.Author.Tests.{lt-ltb, le-ltb}
 use Rattle.octets.specs.Stores.{put}
 use Rattle.octets.proofs.Storing.{put_all}
+use Rattle.octets.proofs.Deciding.{clash}
 use Rattle.walk.specs.declared.State.{State}
 use Rattle.block.specs.WalkBytes.{told_bytes}
 use Rattle.live.specs.declared.Told.{Told}
@@ -18,6 +19,9 @@ use Rattle.live.proofs.LiveParts.{wants_now, live_now, lock_waits, hunt_waits}
 use Rattle.living.specs.LiveBytes.{live_bytes, held_by, live_refusal_of}
 
 -- ---- more bytes wanted with no place looked at
+pub told_false : (A : Type 0) → false ≡ true → A
+told_false A e = clash (sym e)
+
 module _ (s : State) (n : ℕ) (more : Bool) (near : s.position.place + n < far) (wanted : wants more s.limit s.position.misses s.position.lock ≡ true) (w : List ℕ) (whole : length w ≡ n) where
   now_is : waiting_at 0 s ≡ live_at w true s → live_at w more s ≡ waiting_at 0 s
   now_is p = sym (p ∙ live_now w more s wanted)

@@ -15,8 +15,16 @@ use Rattle.octets.specs.Choice.{pick}
 use Rattle.refusals.specs.declared.Refusal.TheVariants.{NotAllowed}
 use Rattle.refusals.specs.Refusals.{outcome_number}
 use Rattle.nightlog.specs.declared.Entry.{Entry}
-use Rattle.nightlog.specs.Log.{allowed_entry, entry_from, good_from, records_in, records_of, entry_of_record, bad_from, first_bad, log_refusal_of, Judges, entry_refusal_of, no_entry, found_entry, Finds, writing_refusal_of, WritesEntry, record_of}
+use Rattle.nightlog.specs.Log.{allowed, allowed_entry, entry_from, tail_from, good_from, records_in, records_of, entry_of_record, bad_from, first_bad, log_refusal_of, Judges, entry_refusal_of, no_entry, found_entry, Finds, writing_refusal_of, WritesEntry, record_of}
 use Rattle.nightlog.proofs.Cut.{entry_in, good_in, counted, chunk_at, bad_found_at, none_found}
+
+pub tail_bad : (l : List ℕ) (at t : ℕ) → t ≡ tail_from l at → (t ≡ 0 → ⊥) → false ≡ good_from l at
+unfolding good_from
+tail_bad l at t e h = rw (← e, ne_eqb t 0 h)
+
+pub tail_good : (l : List ℕ) (at t : ℕ) (r : Bool) → t ≡ tail_from l at → t ≡ 0 → r ≡ allowed (get_or l (at + 8) 0) (get_or l (at + 9) 0) (get_or l (at + 10) 0) → r ≡ good_from l at
+unfolding good_from entry_from
+tail_good l at t r e h q = rw (← e, eq-eqb t 0 h) q
 
 module _ (l : List ℕ) where
   turn : (i n : ℕ) → i < n → bad_from l i (n - i) ≡ pick (good_from l (16 * i)) (bad_from l (i + 1) (n - (i + 1))) i

@@ -27,6 +27,14 @@ use Rattle.outward.specs.OutClauses.{Held, in_array, beside, output_by, refusal_
 use Rattle.outward.specs.WayOut.{Sends}
 use Rattle.outward.proofs.Placing.{width_most, sent}
 
+-- a row with the check bytes that were asked for
+pub row_with : (r w n : ℕ) (row out check after : List ℕ) → check_refusal w r ≡ 0 → w ≤ length row → length out ≡ r → Checks (take w row) out check n → after ≡ take w row ++ check
+    → after ≡ take w row ++ check_bytes r (take w row)
+row_with r w n row out check after z h e t a =
+    let q : n ≡ 0 = t.number ∙ rw (e, length-take-le w row h) z in
+    let b = t.bytes in
+    a ∙ ap (λ (x : List ℕ). take w row ++ x) (rw (q, e) at b)
+
 taken_row : (fourteen : Bool) (w : ℕ) (row : List ℕ) → length row ≡ 240 → w ≡ width_of fourteen → check_refusal (length (take w row)) (length (drop w row)) ≡ 0
 unfolding check_refusal
 taken_row fourteen w row l e =
@@ -39,8 +47,8 @@ taken_row fourteen w row l e =
     go false = refl
 
 -- a row split at its information columns, with the check bytes that were asked for behind them
-pub row_with : (fourteen : Bool) (w n : ℕ) (row check : List ℕ) → length row ≡ 240 → w ≡ width_of fourteen → Checks (take w row) (drop w row) check n → take w row ++ check ≡ take (width_of fourteen) row ++ check_bytes (240 - width_of fourteen) (take (width_of fourteen) row)
-row_with fourteen w n row check l e t =
+pub row_split : (fourteen : Bool) (w n : ℕ) (row check : List ℕ) → length row ≡ 240 → w ≡ width_of fourteen → Checks (take w row) (drop w row) check n → take w row ++ check ≡ take (width_of fourteen) row ++ check_bytes (240 - width_of fourteen) (take (width_of fourteen) row)
+row_split fourteen w n row check l e t =
     let d : length (drop w row) ≡ 240 - w = length-drop w row ∙ ap (λ (k : ℕ). k - w) l in
     let b = t.bytes in
     let q : n ≡ 0 = t.number ∙ taken_row fourteen w row l e in
@@ -97,8 +105,14 @@ module _ (fourteen : Bool) (b m s g h out : List ℕ) where
   unfolding row_checks
   rows_length = list_length (λ n. get_or (check_bytes (240 - w) (information_row w (lent b m s g h []) (n / (240 - w)))) (n % (240 - w)) 0) (24 * (240 - w))
 
-  pub asked : refusal_for (length b) (parts_refusal w (length out) (length m) (length s) (length g) (length h) (24 * (240 - w))) w ≡ refusal_for (length b) (refusal_beside w (lent b m s g h rows) out) w
-  asked = ap (λ (k : ℕ). refusal_for (length b) (parts_refusal w (length out) (length m) (length s) (length g) (length h) k) w) (sym rows_length)
+  -- the lengths as they are asked for: those of the rows' check bytes are right
+  pub asked : (n k : ℕ) → k ≡ w → n ≡ parts_refusal w (length out) (length m) (length s) (length g) (length h) (24 * (240 - k)) → n ≡ refusal_beside w (lent b m s g h rows) out
+  asked n k q e =
+      e ∙ ap (parts_refusal w (length out) (length m) (length s) (length g) (length h)) (ap (λ (v : ℕ). 24 * (240 - v)) q ∙ sym rows_length)
+
+  -- the same of the number, with what the variant carries
+  pub asked_for : refusal_for (length b) (parts_refusal w (length out) (length m) (length s) (length g) (length h) (24 * (240 - w))) w ≡ refusal_for (length b) (refusal_beside w (lent b m s g h rows) out) w
+  asked_for = ap (λ (n : ℕ). refusal_for (length b) n w) (asked (parts_refusal w (length out) (length m) (length s) (length g) (length h) (24 * (240 - w))) w refl refl)
 
   same_rows : row_checks w (in_array b m s []) ≡ rows
   unfolding row_checks information_row contents
@@ -106,4 +120,4 @@ module _ (fourteen : Bool) (b m s g h out : List ℕ) where
 
   pub sent_coded : (c : List (List ℕ)) (after : List ℕ) → 0 ≡ refusal_for (length b) (parts_refusal w (length out) (length m) (length s) (length g) (length h) (24 * (240 - w))) w
       → c ≡ coding_array w (coded w (in_array b m s [])) → after ≡ output_by (beside g h) c → Sends fourteen (coded w (lent b m s g h [])) out after 0
-  sent_coded c after e a o = sent fourteen b m s g h rows out c after (e ∙ asked) (a ∙ ap (λ (r : List ℕ). coding_array w (in_array b m s r)) same_rows) o
+  sent_coded c after e a o = sent fourteen b m s g h rows out c after (e ∙ asked_for) (a ∙ ap (λ (r : List ℕ). coding_array w (in_array b m s r)) same_rows) o

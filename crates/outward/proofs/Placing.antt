@@ -293,6 +293,11 @@ module _ (fourteen : Bool) (b m s g h r out : List ℕ) where
   unfolding out_refusal
   refused n e f = record { number = e; bytes = rw (ne_eqb n 0 f) }
 
+  -- where the lengths are right, what is wrong is what the variant carries
+  pub refused_carried : (n : ℕ) → n ≡ refusal_beside w p out → n ≡ 0 → carried w < length b → Sends fourteen p out out 23
+  unfolding out_refusal
+  refused_carried n e z f = record { number = rw (← e, z, lt-ltb (carried w) (length b) f); bytes = refl }
+
   same_array : coding_array w (in_array b m s r) ≡ coding_array w p
   unfolding coding_array coding_row contents
   same_array = refl

@@ -12,10 +12,12 @@ use borrow.Author.Tests.{lt-ltb, le-leb, ltb-true, ltb-false, leb-true, eqb-true
 use lib.Dec.{eqb, ltb, leb}
 use lib.ListN.{length, get_or, set}
 use lib.Seq.{get_or-set_same, get_or-set_other}
+use Rattle.frame.specs.Frame.{stream_of}
 use Rattle.capacity.specs.Sizes.{units_in}
 use Rattle.octets.proofs.Deciding.{or_assoc, or-false, neither, clash, both}
 use Rattle.places.specs.declared.Place.{Place}
-use Rattle.places.specs.Places.{some, some_pair, beyond, meets}
+use Rattle.places.specs.Places.{place_of, places_to, some, some_pair, beyond, meets}
+use Rattle.places.proofs.PlaceList.{places_more}
 use Rattle.profile.specs.ProfileClauses.{place_by, laid_to, end_at, EndsBy, takes}
 use Rattle.profile.proofs.Pairs.{or_swap, some_snoc, pair_snoc, none_at_all}
 use Rattle.profile.proofs.Tables.{laid_more}
@@ -175,6 +177,29 @@ module _ (ps : List Place) (p : Place) (u : ℕ) where
     pub met_ends : (found : Bool) → MetTo found ps p u → found ≡ some_pair meets (ps ++ (p ∷ []))
     met_ends found e = e ∙ ap (λ (b : Bool). some_pair meets ps || b) (some_same _ _ (cut_whole p u s l k) ps) ∙ sym (pair_snoc meets ps p)
 
+-- ---- the streams of a frame
+none_placed : (t : Place → Bool) (f : List ℕ) (n i : ℕ) → i < n → some t (places_to f n) ≡ false → t (place_of (stream_of f i)) ≡ false
+unfolding places_to
+none_placed t f zero i h e = absurd (omega arith)
+none_placed t f (suc n) i h e =
+    let o = neither (some t (places_to f n)) (t (place_of (stream_of f n))) (sym (some_snoc t (places_to f n) (place_of (stream_of f n))) ∙ e) in
+    ⊎_elim (λ (d : i ≡ n). ap (λ (k : ℕ). t (place_of (stream_of f k))) d ∙ o.1) (λ (l : i < n). none_placed t f n i l o.0) (eq-or-lt_of_le (le_of_suc-le-suc h))
+
+-- a unit of a stream that is not beyond the map
+pub on_map : (f : List ℕ) (n i u : ℕ) → i < n → some beyond (places_to f n) ≡ false → (place_of (stream_of f i)).sad ≤ u → u < (place_of (stream_of f i)).end → u < 864
+unfolding beyond
+on_map f n i u h e s l =
+    let d : beyond (place_of (stream_of f i)) ≡ false = none_placed beyond f n i h e in
+    omega (arith, ltb-false 864 (place_of (stream_of f i)).end (rw (lt-ltb (place_of (stream_of f i)).sad (place_of (stream_of f i)).end (omega arith)) at d))
+
+-- one stream of a frame more
+module _ (f : List ℕ) (i u : ℕ) (s : (place_of (stream_of f i)).sad ≤ u) (l : (place_of (stream_of f i)).end ≤ u) (k : u - (place_of (stream_of f i)).sad ≤ (place_of (stream_of f i)).end - (place_of (stream_of f i)).sad) where
+  pub map_on : (map : List Bool) → MappedTo map (places_to f i) (place_of (stream_of f i)) u → Mapped map (places_to f (i + 1))
+  map_on map h = subst (Mapped map) (sym (places_more f i)) (map-ends (places_to f i) (place_of (stream_of f i)) u s l k map h)
+
+  pub met_on : (found : Bool) → MetTo found (places_to f i) (place_of (stream_of f i)) u → found ≡ some_pair meets (places_to f (i + 1))
+  met_on found e = met_ends (places_to f i) (place_of (stream_of f i)) u s l k found e ∙ ap (some_pair meets) (sym (places_more f i))
+
 -- ---- the streams that two tables lay out
 module _ (highs lows : List ℕ) where
   -- stream i
@@ -194,9 +219,9 @@ module _ (highs lows : List ℕ) where
     row_end = ended i h ∙ end_same (get_or highs i 0 % 1024) (units_in (get_or lows i 0))
 
     -- a unit of a stream that is not beyond the map
-    pub on_map : (u : ℕ) → some beyond (laid_to highs lows n) ≡ false → u < get_or ends i 0 → u < 864
+    pub row_on_map : (u : ℕ) → some beyond (laid_to highs lows n) ≡ false → u < get_or ends i 0 → u < 864
     unfolding beyond
-    on_map u e l = go (ltb (at_row i).sad (at_row i).end) refl
+    row_on_map u e l = go (ltb (at_row i).sad (at_row i).end) refl
       where
         go : (b : Bool) → ltb (at_row i).sad (at_row i).end ≡ b → u < 864
         go false d = let z = no_end (at_row i) (ltb-false (at_row i).sad (at_row i).end d) in absurd (omega (arith, row_end, z))
@@ -218,9 +243,9 @@ module _ (highs lows : List ℕ) where
               (omega (arith, w), omega (arith, row_end, z, k))
           go true d = let z = at_end (at_row i) (ltb-true (at_row i).sad (at_row i).end d) in (omega (arith, row_end, z), omega (arith, row_end, z, k))
 
-      pub map_on : (map : List Bool) → MappedTo map (laid_to highs lows i) (at_row i) u → Mapped map (laid_to highs lows (i + 1))
-      map_on map m = subst (Mapped map) (sym (laid_more highs lows i)) (map-ends (laid_to highs lows i) (at_row i) u s row_whole.0 row_whole.1 map m)
+      pub row_map_on : (map : List Bool) → MappedTo map (laid_to highs lows i) (at_row i) u → Mapped map (laid_to highs lows (i + 1))
+      row_map_on map m = subst (Mapped map) (sym (laid_more highs lows i)) (map-ends (laid_to highs lows i) (at_row i) u s row_whole.0 row_whole.1 map m)
 
-      pub met_on : (found : Bool) → MetTo found (laid_to highs lows i) (at_row i) u → found ≡ some_pair meets (laid_to highs lows (i + 1))
-      met_on found e =
+      pub row_met_on : (found : Bool) → MetTo found (laid_to highs lows i) (at_row i) u → found ≡ some_pair meets (laid_to highs lows (i + 1))
+      row_met_on found e =
           met_ends (laid_to highs lows i) (at_row i) u s row_whole.0 row_whole.1 found e ∙ ap (some_pair meets) (sym (laid_more highs lows i))

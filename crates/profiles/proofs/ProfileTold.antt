@@ -3,12 +3,20 @@
 use mathlib.Core.List.{List, [], ◌∷◌}
 use mathlib.Core.Path.{◌≡◌, refl}
 use Prim.Native.Nat.{ℕ}
+use native.Mathlib.Omega.{arith}
 use borrow.Author.Tests.{ne_eqb}
-use lib.ListN.{length}
+use lib.ListN.{length, set}
 use Rattle.frame.specs.Rules.{refusal_of}
 use Rattle.places.specs.Places.{profile_of}
 use Rattle.collision.specs.Collisions.{two_of}
 use Rattle.profiles.specs.ProfileBytes.{collision_bytes, CollisionTold}
+
+pub three_bytes : (out : List ℕ) (a b c : ℕ) → length out ≡ 3 → set (set (set out 0 a) 1 b) 2 c ≡ a ∷ b ∷ c ∷ []
+three_bytes [] a b c e = absurd (omega arith)
+three_bytes (x ∷ []) a b c e = absurd (omega arith)
+three_bytes (x ∷ y ∷ []) a b c e = absurd (omega arith)
+three_bytes (x ∷ y ∷ z ∷ []) a b c e = refl
+three_bytes (x ∷ y ∷ z ∷ w ∷ out) a b c e = absurd (omega arith)
 
 pub three : (f : List ℕ) (n a b : ℕ) → n ≡ profile_of f → record { first = a; second = b } ≡ two_of f → n ∷ a ∷ b ∷ [] ≡ collision_bytes f
 unfolding collision_bytes

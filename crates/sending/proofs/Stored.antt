@@ -21,7 +21,7 @@ use Rattle.sending.specs.SentGroups.{start_group, continuation_group, end_group,
 use Rattle.sending.specs.SendClauses.{Carries}
 
 -- two bytes of an end, and the message bytes behind them
-group_put : (l a r bytes : List ℕ) (at b : ℕ) → at + 2 + length bytes ≤ length l → a ≡ put l at (b ∷ 0 ∷ []) → r ≡ put a (at + 2) bytes → r ≡ put l at (b ∷ 0 ∷ bytes)
+pub group_put : (l a r bytes : List ℕ) (at b : ℕ) → at + 2 + length bytes ≤ length l → a ≡ put l at (b ∷ 0 ∷ []) → r ≡ put a (at + 2) bytes → r ≡ put l at (b ∷ 0 ∷ bytes)
 group_put l a r bytes at b room p q = put_chain l a r at (at + 2) (b ∷ 0 ∷ []) bytes p q refl (omega arith)
 
 -- six bytes from k on, and all from k on, as the code takes them

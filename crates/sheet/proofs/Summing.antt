@@ -40,6 +40,15 @@ module _ (s : Sheet) (n : ℕ) (goes : goes_on s n ≡ true) where
   pub run_fits : (s.run.high ≤ 18446744073709551615 - n) × (s.run.low < billion)
   run_fits = run_parts s.run (18446744073709551615 - n) halves.1
 
+module _ (s : Sheet) (n : ℕ) where
+  pub goes_not : all_at_most (18446744073709551615 - n) s.totals ≡ false → false ≡ goes_on s n
+  unfolding goes_on
+  goes_not h = rw h
+
+  pub goes_by : (b : Bool) → all_at_most (18446744073709551615 - n) s.totals ≡ true → b ≡ run_goes_on s.run (18446744073709551615 - n) → b ≡ goes_on s n
+  unfolding goes_on
+  goes_by b h e = rw h e
+
 -- a log of whole records, n of them, and a sheet that can go on with them
 pub record Ready (s : Sheet) (l : List ℕ) (n : ℕ) : Type 0 where
   pub even : length l % 16 ≡ 0

@@ -1,6 +1,6 @@
 -- The totals of the rows: one entry more at a time, and of two lists joined.
 -- Assumes nothing.
-use mathlib.Core.Bool.{Bool, true, false}
+use mathlib.Core.Bool.{Bool, true, false, ◌&&◌}
 use mathlib.Core.List.{List, [], ◌∷◌, ◌++◌}
 use mathlib.Core.Logic.{⊎_elim}
 use mathlib.Core.Path.{◌≡◌, refl, sym, ap₂, ◌∙◌}
@@ -8,10 +8,10 @@ use Prim.Native.Nat.{ℕ, zero, suc, ◌+◌, ◌≤◌, ◌<◌}
 use native.Mathlib.Numerals.{add-one}
 use native.Mathlib.Nat.{eq-or-lt_of_le}
 use native.Mathlib.Omega.{arith}
-use borrow.Author.Tests.{eqb-true, eqb-false, ltb-true, ltb-false, leb-true}
+use borrow.Author.Tests.{eqb-true, eqb-false, ltb-true, ltb-false, leb-true, le-leb, lt-leb}
 use lib.Dec.{eqb, ltb, leb}
-use lib.ListN.{length, get_or, set, length-append, length-set, get_or-append, get_or-eq_default}
-use lib.Seq.{get_or-set_same, get_or-set_other, ext_get_or, get_or_at}
+use lib.ListN.{length, get_or, set, drop, length-append, length-set, get_or-append, get_or-eq_default}
+use lib.Seq.{get_or-set_same, get_or-set_other, ext_get_or, get_or_at, drop-cons, drop-length}
 use Rattle.octets.proofs.Deciding.{both}
 use Rattle.sum.specs.Sum.{digit}
 use Rattle.nightlog.specs.declared.Entry.{Entry}
@@ -118,3 +118,16 @@ module _ (m : ℕ) where
   room_at [] h k = omega arith
   room_at (x ∷ xs) h zero = leb-true x m (both (leb x m) (all_at_most m xs) h).0
   room_at (x ∷ xs) h (suc k) = room_at xs (both (leb x m) (all_at_most m xs) h).1 k
+
+  module _ (t : List ℕ) (sixteen : length t ≡ 16) where
+    turn : (i : ℕ) → i < 16 → all_at_most m (drop i t) ≡ (leb (get_or t i 0) m && all_at_most m (drop (i + 1) t))
+    turn i h = rw (drop-cons t i 0 (rw sixteen h), add-one i)
+
+    pub room_out : (i : ℕ) → i < 16 → m < get_or t i 0 → false ≡ all_at_most m (drop i t)
+    room_out i h o = sym (turn i h ∙ (rw (lt-leb (get_or t i 0) m o)))
+
+    pub room_more : (i : ℕ) → i < 16 → get_or t i 0 ≤ m → all_at_most m (drop i t) ≡ all_at_most m (drop (i + 1) t)
+    room_more i h o = turn i h ∙ (rw (le-leb (get_or t i 0) m o))
+
+    pub room_end : (i : ℕ) → i ≡ 16 → true ≡ all_at_most m (drop i t)
+    room_end i h = rw (h, ← sixteen, drop-length t)

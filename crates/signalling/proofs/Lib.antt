@@ -4,3 +4,4 @@ pub mod Stringing
 pub mod Holding
 pub mod StepFixed
 pub mod GroupTaken
+pub mod PairsStored

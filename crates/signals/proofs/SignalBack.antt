@@ -3,7 +3,7 @@
 use mathlib.Core.Bool.{Bool, true, false}
 use mathlib.Core.List.{List, ◌++◌}
 use mathlib.Core.Path.{◌≡◌, refl, sym, ap, ap₂, subst, ◌∙◌}
-use Prim.Native.Nat.{ℕ, ◌^◌, ◌≤◌, ◌<◌}
+use Prim.Native.Nat.{ℕ, ◌/◌, ◌%◌, ◌^◌, ◌≤◌, ◌<◌}
 use native.Mathlib.Omega.{arith}
 use borrow.Author.Tests.{eq-eqb, eqb-true, le-ltb, ltb-false}
 use lib.Dec.{eqb, ltb}
@@ -22,6 +22,9 @@ use Rattle.signalling.specs.OnNumbers.{beginning}
 use Rattle.signalling.proofs.StepFixed.{item_by_lem}
 use Rattle.signals.specs.SignalBytes.{item_kind, item_number, item_length, group_widths, group_values, message_widths, message_values, signal_bytes, group_in, message_in, state_at, item_by, item_at, signal_refusal, Accepted}
 use Rattle.signals.specs.SignalClauses.{Left}
+
+pub low_pair : (w : ℕ) → w % 65536 ≡ w / 1 % 65536
+low_pair w = omega arith
 
 bit_back : (b : Bool) → eqb (digit b) 1 ≡ b
 bit_back true = refl

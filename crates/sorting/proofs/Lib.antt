@@ -1,1 +1,2 @@
 pub mod OnceMet
+pub mod ValueTaken

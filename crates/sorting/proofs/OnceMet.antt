@@ -5,7 +5,7 @@ use mathlib.Core.List.{List, [], ◌∷◌}
 use mathlib.Core.Path.{◌≡◌, refl, sym, ap, ap₂, ◌∙◌}
 use Prim.Native.Nat.{ℕ, zero, suc, ◌+◌, ◌≤◌, ◌<◌}
 use native.Mathlib.Omega.{arith}
-use borrow.Author.Tests.{eq-eqb, ne_eqb, le-ltb, leb-true, eqb-true, ltb-false, not-false}
+use borrow.Author.Tests.{eq-eqb, ne_eqb, lt-ltb, le-ltb, leb-true, eqb-true, ltb-false, not-false}
 use lib.Dec.{eqb, leb}
 use lib.ListN.{length, get_or, take, drop, length-drop}
 use Rattle.octets.specs.Choice.{pick}
@@ -48,6 +48,10 @@ tally_one (v ∷ w ∷ vs) = sym (ne_eqb (length (v ∷ w ∷ vs)) 1 (λ (e : le
 pub value_there : (p : List ℕ) (k : ℕ) (is : List Item) (m : Met) → Holds p (values_of k is) m → tally_by m ≡ 1 → ValueAt p (value_of k is) (span_of m)
 unfolding value_of
 value_there p k is m y e = record { inside = y.inside; value = sym (ap (λ (vs : List (List ℕ)). get_or vs 0 []) (y.one e)) }
+
+-- the same with the tally and the place under names of their own
+pub value_at_lem : (p : List ℕ) (k : ℕ) (is : List Item) (m : Met) (tally : ℕ) (s : Span) → Holds p (values_of k is) m → tally ≡ tally_by m → s ≡ span_of m → tally ≡ 1 → ValueAt p (value_of k is) s
+value_at_lem p k is m tally s y t e o = rw e (value_there p k is m y (sym t ∙ o))
 
 one_tally : (vs : List (List ℕ)) → length vs ≡ 1 → tally_of vs ≡ 1
 one_tally vs e = eqb-true (tally_of vs) 1 (tally_one vs ∙ eq-eqb (length vs) 1 e)
@@ -122,13 +126,20 @@ managed_called is h = eqb-true _ _ (both (eqb (length (values_of 0 is)) 1) (eqb 
 
 -- ---- the rules' numbers
 module _ (is : List Item) (b : some_bad is ≡ false) where
+  pub parts_21 : is_managed is ≡ false → 21 ≡ first (item_rules_of is)
+  parts_21 m = rw (b, m)
+
   module _ (m : is_managed is ≡ true) where
     pub parts_22 : each_once is (highest_in is) ≡ false → 22 ≡ first (item_rules_of is)
     parts_22 o = rw (b, m, o)
 
     module _ (o : each_once is (highest_in is) ≡ true) where
-      pub parts_35 : level_in (value_of 0 is) ≡ 4 → 35 ≡ first (item_rules_of is)
-      parts_35 l = rw (b, m, o, l)
+      -- a level of any other number than 0 to 3, and no level
+      pub parts_35 : (level : ℕ) → level ≡ level_in (value_of 0 is) → 3 < level → 35 ≡ first (item_rules_of is)
+      parts_35 level l h = rw (b, m, o, ← l, lt-ltb 3 level h)
+
+      pub parts_none : level_in (value_of 0 is) ≡ 4 → 35 ≡ first (item_rules_of is)
+      parts_none l = parts_35 4 (sym l) (omega arith)
 
       pub parts_0 : (level : ℕ) → level ≡ level_in (value_of 0 is) → level < 4 → 0 ≡ first (item_rules_of is)
       parts_0 level l h = rw (b, m, o, ← l, le-ltb 3 level (omega arith))

@@ -1,5 +1,5 @@
 use borrow.Author.Rules.{rules}
-use Rattle.outward.proofs.CodedOut.{row_with, taken_ok}
+use Rattle.outward.proofs.CodedOut.{row_split, taken_ok}
 use Rattle.outward.proofs.coded_row.Goals as goal
 
 pub unwrap-requires : goal.unwrap-requires
@@ -10,4 +10,4 @@ unwrap-requires c =
 pub returns : goal.returns
 returns c =
     let s = c.split_at_mut-information.ensures in
-    rw s.front (row_with c.args.fourteen _ _ c.args.row _ (search rules) c.width.ensures.0 (rw (s.front, s.back) at c.check_bytes.ensures))
+    rw s.front (row_split c.args.fourteen _ _ c.args.row _ (search rules) c.width.ensures.0 (rw (s.front, s.back) at c.check_bytes.ensures))

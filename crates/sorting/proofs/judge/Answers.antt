@@ -3,7 +3,7 @@ use Prim.Native.Nat.{◌≤◌}
 use native.Mathlib.Omega.{arith}
 use borrow.Author.Rules.{rules}
 use Rattle.items.specs.TagItems.{items_of}
-use Rattle.sorting.proofs.OnceMet.{highest_small, value_there, managed_one, once_all, parts_22, parts_35, parts_0}
+use Rattle.sorting.proofs.OnceMet.{highest_small, value_there, managed_one, once_all, parts_22, parts_none, parts_0}
 use Rattle.sorting.proofs.judge.Goals as goal
 
 pub managed-requires : goal.managed-requires
@@ -30,7 +30,7 @@ returns-then-not-all_once c =
 pub returns-in-None : goal.returns-in-None
 returns-in-None c =
     let y = c.requires in
-    parts_35 _ y.sound (sym c.managed.ensures ∙ c.if-not-managed.false) (sym (c.all_once.ensures ∙ once_all _ _ y _ (omega arith)) ∙ c.if-not-all_once.false) c.in-None.ensures
+    parts_none _ y.sound (sym c.managed.ensures ∙ c.if-not-managed.false) (sym (c.all_once.ensures ∙ once_all _ _ y _ (omega arith)) ∙ c.if-not-all_once.false) c.in-None.ensures
 
 pub returns-in-Some : goal.returns-in-Some
 returns-in-Some c =
