@@ -166,28 +166,27 @@ noted_on highs lows ends n i notes r h e d a =
     subst (λ (ps : List Place). Noted ps r) (sym (laid_more highs lows i))
     (a (place_by (get_or highs i 0) (get_or lows i 0)) refl refl (e i h ∙ end_same (get_or highs i 0 % 1024) (units_in (get_or lows i 0))) (laid_to highs lows i) d)
 
--- ---- the number by the notes
-module _ (ps : List Place) (t : ℕ) (n : ℕ) (s : ltb t n ≡ some_pair same_scid ps) where
-  pub told_30 : t < n → 30 ≡ first (place_rules ps)
-  told_30 a = rw (← s, lt-ltb t n a)
+-- ---- the number by the SCIDs, and where they differ by the notes
+pub told_30 : (ps : List Place) (t n : ℕ) → ltb t n ≡ some_pair same_scid ps → t < n → 30 ≡ first (place_rules ps)
+told_30 ps t n s a = rw (← s, lt-ltb t n a)
 
-  module _ (a : n ≤ t) (r : Notes) (d : Noted ps r) where
-    pub told_31 : r.sizeless ≡ true → 31 ≡ first (place_rules ps)
-    told_31 b = rw (← s, le-ltb t n a, ← d.sizes, b)
+module _ (ps : List Place) (a : some_pair same_scid ps ≡ false) (r : Notes) (d : Noted ps r) where
+  pub told_31 : r.sizeless ≡ true → 31 ≡ first (place_rules ps)
+  told_31 b = rw (a, ← d.sizes, b)
 
-    module _ (b : r.sizeless ≡ false) where
-      pub told_32 : r.beyond ≡ true → 32 ≡ first (place_rules ps)
-      told_32 c = rw (← s, le-ltb t n a, ← d.sizes, b, ← d.within, c)
+  module _ (b : r.sizeless ≡ false) where
+    pub told_32 : r.beyond ≡ true → 32 ≡ first (place_rules ps)
+    told_32 c = rw (a, ← d.sizes, b, ← d.within, c)
 
-      module _ (c : r.beyond ≡ false) where
-        pub told_33 : (m : Bool) → m ≡ some_pair meets ps → m ≡ true → 33 ≡ first (place_rules ps)
-        told_33 m e k = rw (← s, le-ltb t n a, ← d.sizes, b, ← d.within, c, ← e, k)
+    module _ (c : r.beyond ≡ false) where
+      pub told_33 : (m : Bool) → m ≡ some_pair meets ps → m ≡ true → 33 ≡ first (place_rules ps)
+      told_33 m e k = rw (a, ← d.sizes, b, ← d.within, c, ← e, k)
 
-        pub told_none : (m : Bool) → m ≡ some_pair meets ps → m ≡ false → 0 ≡ first (place_rules ps)
-        told_none m e k = rw (← s, le-ltb t n a, ← d.sizes, b, ← d.within, c, ← e, k)
+      pub told_none : (m : Bool) → m ≡ some_pair meets ps → m ≡ false → 0 ≡ first (place_rules ps)
+      told_none m e k = rw (a, ← d.sizes, b, ← d.within, c, ← e, k)
 
-        pub told_ordered : r.crossed ≡ false → 0 ≡ first (place_rules ps)
-        told_ordered k = told_none false (sym (d.apart k).0) refl
+      pub told_ordered : r.crossed ≡ false → 0 ≡ first (place_rules ps)
+      told_ordered k = told_none false (sym (d.apart k).0) refl
 
 -- ---- in order but for streams without units: as long as none crosses no two meet, and all end where the last one with units does
 abbrev pub Risen : List Place → Bool → ℕ → Type 0

@@ -15,8 +15,7 @@ use Rattle.octets.specs.Choice.{pick}
 use Rattle.octets.proofs.Deciding.{or-false}
 use Rattle.places.specs.declared.Place.{Place}
 use Rattle.places.specs.Places.{some, some_pair, same_scid}
-use Rattle.profile.specs.ProfileClauses.{place_by, laid_to}
-use Rattle.profile.specs.StreamClauses.{total, Tallied}
+use Rattle.profile.specs.ProfileClauses.{place_by, laid_to, total, Tallied}
 use Rattle.profile.proofs.Pairs.{some_snoc, pair_snoc}
 use Rattle.profile.proofs.Tables.{laid_more}
 

@@ -1,11 +1,11 @@
 -- What the private functions of the profile say. Nothing here need be believed.
 -- Assumes nothing.
-use Rattle.std.specs.Prelude.{Bool, false, ◌&&◌, List, [], ◌∷◌, ◌++◌, ◌≡◌, ℕ, zero, suc, ◌+◌, ◌*◌, ◌/◌, ◌%◌, ◌<◌, eqb, ltb, leb, get_or}
+use Rattle.std.specs.Prelude.{Bool, false, ◌&&◌, List, [], ◌∷◌, ◌++◌, ◌≡◌, ℕ, zero, suc, ◌+◌, ◌*◌, ◌/◌, ◌%◌, ◌≤◌, ◌<◌, eqb, ltb, leb, get_or, sum_by}
 use Rattle.octets.specs.Choice.{pick}
 use Rattle.octets.specs.Words.{two_at}
 use Rattle.capacity.specs.Sizes.{units_in}
 use Rattle.places.specs.declared.Place.{Place}
-use Rattle.places.specs.Places.{some, some_pair, unsized, beyond, meets}
+use Rattle.places.specs.Places.{some, some_pair, same_scid, unsized, beyond, meets}
 use Rattle.profile.specs.declared.Notes.{Notes}
 
 -- ---- a table of 64 numbers of two bytes, by g
@@ -37,6 +37,15 @@ end_at p = pick (ltb p.sad p.end) p.end 0
 -- the ends of the first n streams, by the size of a half
 abbrev pub EndsBy : (ℕ → ℕ) → List ℕ → List ℕ → List ℕ → ℕ → Type 0
 EndsBy size highs lows t n = (k : ℕ) → k < n → get_or t k 0 ≡ end_by (get_or highs k 0 % 1024) (size (get_or lows k 0))
+
+-- ---- marks of SCIDs: there are as many as streams unless two have the same
+abbrev pub total : List Bool → ℕ
+total marks = sum_by (λ (b : Bool). pick b 1 0) marks
+
+pub record Tallied (marks : List Bool) (n : ℕ) (ps : List Place) : Type 0 where
+  pub marks_of : (k : ℕ) → k < 64 → get_or marks k false ≡ some (λ (q : Place). eqb q.scid k) ps
+  pub at_most : total marks ≤ n
+  pub fewer : ltb (total marks) n ≡ some_pair same_scid ps
 
 -- ---- the stream has units, and they do not end at m or before it
 unfoldable pub past : ℕ → Place → Bool

@@ -2,19 +2,19 @@
 // that it is done many streams at a time. Sub-channels that lie in order cannot meet; only where they do not is a map of the units made.
 #![tactic(auto)]
 
-ghost use Rattle.std.specs.Prelude.{false, ◌≡◌, ℕ, ◌≤◌, ◌<◌, eqb, ltb, get_or, length};
+ghost use Rattle.std.specs.Prelude.{false, List, ◌≡◌, ℕ, ◌≤◌, ◌<◌, eqb, ltb, get_or, length, MatchResult};
 ghost use Rattle.octets.specs.Choice.{pick};
 ghost use Rattle.frame.specs.Rules.{first};
-ghost use Rattle.refusals.specs.Refusals.{outcome_number};
+ghost use Rattle.refusals.specs.Refusals.{refusal_number, outcome_number};
 ghost use Rattle.capacity.specs.Sizes.{units_in, equal_in};
 ghost use Rattle.places.specs.declared.Place.{Place};
 ghost use Rattle.places.specs.Places.{places_to, some, some_pair, same_scid, beyond, meets, place_rules, profile_of};
-ghost use Rattle.profile.specs.ProfileClauses.{end_by, end_at, EndsBy, Adds, Noted};
+ghost use Rattle.profile.specs.ProfileClauses.{laid_to, end_by, end_at, EndsBy, Tallied, Adds, Noted};
 
 use refusals::Refusal;
 
 // The first n streams of a table of 64, by parts, so that a loop over one of them takes many streams at a time (an array of structs would part that):
-// SCID and SAD, TPL and STL, and where each one's units end. Not an Option: 0 is what `end_by` says of no units.
+// SCID and SAD, TPL and STL, and where each one's units end. Not an Option: 0 is what `end_by` says of no units. No two have one SCID.
 #[derive(Clone, Copy)]
 struct Streams {
     highs: [u16; 64],
@@ -23,6 +23,7 @@ struct Streams {
     n: usize,
     ghost few: { n ≤ 64 },
     ghost ended: { EndsBy units_in highs lows ends n },
+    ghost differ: { some_pair same_scid (laid_to highs lows n) ≡ false },
 }
 
 // What is noted of the streams so far: one without a size, one beyond the units, one out of order (it takes no units, or does not begin at or behind the
@@ -55,6 +56,26 @@ fn end_of(sad: u16, units: u16) -> u16
     ensures { result ≡ end_by sad units }
 {
     if units == 0 { 0 } else { sad + units }
+}
+
+// A mark for each SCID of the first n streams.
+fn marked(highs: &[u16; 64], n: usize) -> [bool; 64]
+    requires { n ≤ 64 }
+    ensures { (lows : List ℕ) → Tallied result n (laid_to highs.now lows n) }
+{
+    let mut marks = [false; 64];
+    for high in &highs[..n] {
+        marks[usize::from(*high / 1024 % 64)] = true;
+    }
+    marks
+}
+
+// How many different SCIDs there are.
+fn scids(highs: &[u16; 64], n: usize) -> usize
+    requires { n ≤ 64 }
+    ensures { (lows : List ℕ) → ltb result n ≡ some_pair same_scid (laid_to highs.now lows n) }
+{
+    marked(highs, n).iter().map(|mark| usize::from(*mark)).sum()
 }
 
 // Whether some of these streams carries bytes and has unequal protection. Not `any`, which stops at the first: all are looked at, many at a time.
@@ -111,12 +132,12 @@ fn reached(reach: u16, end: u16) -> u16
 }
 
 impl Streams {
-    ghost use Rattle.profile.specs.StreamClauses.{laid, Tallied};
+    ghost use Rattle.profile.specs.StreamClauses.{laid};
 
-    // Both halves of a word in one turn, so that its four bytes are read together.
-    fn of(frame: &[u8], n: usize) -> Streams
+    // Both halves of a word in one turn, so that its four bytes are read together. Where two have one SCID no end is worked out.
+    fn of(frame: &[u8], n: usize) -> Result<Streams, Refusal>
         requires { n ≤ 64 }
-        ensures { (result.n ≡ n) × (laid result ≡ places_to frame.now n) }
+        ensures { MatchResult result (λ s. (s.n ≡ n) × (laid s ≡ places_to frame.now n)) (λ why. refusal_number why ≡ first (place_rules (places_to frame.now n))) }
     {
         let mut highs = [0u16; 64];
         let mut lows = [0u16; 64];
@@ -124,31 +145,16 @@ impl Streams {
             highs[i] = octets::two(frame, 8 + 4 * i) as u16;
             lows[i] = octets::two(frame, 10 + 4 * i) as u16;
         }
+        if scids(&highs, n) < n {
+            return Err(Refusal::EqualScids);
+        }
         let ends = ends_of(&highs, &lows, n);
-        Streams {
+        Ok(Streams {
             highs,
             lows,
             ends,
             n,
-        }
-    }
-
-    // A mark for each SCID.
-    fn marked(&self) -> [bool; 64]
-        ensures { Tallied result self.now.n (laid self.now) }
-    {
-        let mut marks = [false; 64];
-        for high in &self.highs[..self.n] {
-            marks[usize::from(*high / 1024 % 64)] = true;
-        }
-        marks
-    }
-
-    // How many different SCIDs there are.
-    fn scids(&self) -> usize
-        ensures { ltb result self.now.n ≡ some_pair same_scid (laid self.now) }
-    {
-        self.marked().iter().map(|mark| usize::from(*mark)).sum()
+        })
     }
 
     fn notes(&self) -> Notes
@@ -220,13 +226,10 @@ impl Streams {
         }
     }
 
-    // What is refused of the streams.
+    // What is refused of the streams, whose SCIDs differ.
     fn judge(&self) -> Result<(), Refusal>
         ensures { outcome_number result ≡ first (place_rules (laid self.now)) }
     {
-        if self.scids() < self.n {
-            return Err(Refusal::EqualScids);
-        }
         let notes = self.notes();
         if notes.sizeless {
             return Err(Refusal::NoSize);
@@ -247,5 +250,5 @@ pub fn judge(frame: &[u8]) -> Result<(), Refusal>
 {
     judging::judge(frame)?;
     let fc = fields::fc(frame);
-    Streams::of(&frame[..6144], usize::from(fc.nst)).judge()
+    Streams::of(&frame[..6144], usize::from(fc.nst))?.judge()
 }
