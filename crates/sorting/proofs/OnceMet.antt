@@ -14,13 +14,13 @@ use Rattle.frame.specs.Rules.{first}
 use Rattle.frame.proofs.FirstRule.{none_hold}
 use Rattle.std.specs.List.{list_all}
 use Rattle.std.proofs.Math.Seq.{take-suc}
-use Rattle.std.proofs.lemmas.List.{get_or-drop}
+use Rattle.std.proofs.lemmas.List.{get_or-drop, nil_from_length}
 use Rattle.std.proofs.lemmas.List.Folds.{list_all-append}
 use Rattle.frame.specs.declared.Span.{Span}
 use Rattle.items.specs.declared.Notes.{Notes}
 use Rattle.items.specs.declared.Met.{Met}
 use Rattle.items.specs.declared.Met.TheVariants.{Never, Once, Several}
-use Rattle.items.specs.TagItems.{Item, items_of, part_of, number_by, some_bad, values_of, value_of, highest_in, each_once}
+use Rattle.items.specs.TagItems.{Item, items_of, items_to, part_of, number_by, some_bad, values_of, value_of, highest_in, each_once}
 use Rattle.items.specs.PassNotes.{tally_of, tally_by, span_of, Holds, Noted, ValueAt, Placed, Finds}
 use Rattle.tags.specs.TagValues.{length_for, level_in}
 use Rattle.sorting.specs.SortClauses.{is_once}
@@ -155,3 +155,8 @@ pub clear : (is : List Item) → first (item_rules_of is) ≡ 0 → Clear is
 clear is z =
     let h = none_hold (item_rules_of is) (tt, (tt, (tt, (tt, tt)))) z in
     record { sound = h.0; managed = not-false _ h.1.0; once = not-false _ h.1.1.0; status = ltb-false _ _ h.1.1.1.0 }
+
+-- no bytes, no items
+pub none_sent : (p : List ℕ) → length p ≡ 0 → 21 ≡ first (item_rules_of (items_of p))
+unfolding items_of items_to some_bad is_managed values_of value_of
+none_sent p e = rw (nil_from_length p e) (parts_21 [] refl refl)

@@ -62,6 +62,10 @@ fn judge(packet: &[u8], notes: &Notes) -> Result<(), Refusal>
 pub fn sort(packet: &[u8]) -> Result<Notes, Refusal>
     ensures { Sorts packet.now result }
 {
+    // told at once, without notes of items that aren't there
+    if packet.is_empty() {
+        return Err(Refusal::ManagementItem);
+    }
     let notes = items::pass(packet)?;
     judge(packet, &notes)?;
     Ok(notes)
