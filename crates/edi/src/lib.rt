@@ -14,7 +14,7 @@ ghost use Rattle.sorting.specs.TagRules.{item_rules_of};
 ghost use Rattle.edi.specs.Regenerating.{entries_to, data_to, fields_for, main_for, Regenerates};
 ghost use Rattle.edi.specs.EdiClauses.{long_to, over_rules, ValuesAt};
 
-use frame::Stream;
+use frame::{Fields, Stream};
 use items::Notes;
 use refusals::Refusal;
 
@@ -107,6 +107,16 @@ impl<'a> Sorted<'a> {
         self.put_data(main, fic.len);
     }
 
+    // The frame of these fields, with the main stream put together. A function of its own, since the bytes are cleared twice where they are made in a branch.
+    fn assemble(&self, x: Fields, len: usize, out: &mut [u8]) -> Result<(), Refusal>
+        requires { (len ≡ length (main_for (items_of self.now.packet.now))) × (len ≤ 6124) }
+        ensures { Writes x (main_for (items_of self.now.packet.now)) out.old out.new (outcome_number result) }
+    {
+        let mut main = [0u8; 6124];
+        self.put_main(&mut main);
+        writing::write(x, &main[..len], out)
+    }
+
     // A main stream that no frame can hold is refused by the rules before the one on its length, whatever its bytes.
     fn build(&self, fsync1: bool, out: &mut [u8]) -> Result<(), Refusal>
         requires { long_to (items_of self.now.packet.now) self.now.notes.highest ≡ false }
@@ -119,9 +129,7 @@ impl<'a> Sorted<'a> {
         if len > 6124 {
             return writing::write(x, b"", out);
         }
-        let mut main = [0u8; 6124];
-        self.put_main(&mut main);
-        writing::write(x, &main[..len], out)
+        self.assemble(x, len, out)
     }
 }
 
