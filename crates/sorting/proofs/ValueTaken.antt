@@ -1,7 +1,7 @@
 -- A value as its place and its length in a packet say, either of which may run past the end.
 -- Assumes nothing.
 use mathlib.Core.Bool.{Bool, true, false}
-use mathlib.Core.List.{List, [], ◌∷◌}
+use mathlib.Core.List.{List}
 use mathlib.Core.Path.{◌≡◌, refl, sym, ap, ◌∙◌}
 use Prim.Native.Nat.{ℕ, ◌+◌, ◌-◌, min}
 use native.Mathlib.Omega.{arith}
@@ -9,10 +9,7 @@ use borrow.Author.Tests.{ltb-true, ltb-false}
 use lib.Dec.{ltb}
 use lib.ListN.{length, take, drop, length-drop}
 use lib.Seq.{take_all}
-
-nothing : (l : List ℕ) → length l ≡ 0 → l ≡ []
-nothing [] e = refl
-nothing (x ∷ l) e = absurd (omega (arith, e))
+use Rattle.std.proofs.lemmas.List.{nil_from_length}
 
 drop_min : (p : List ℕ) (n : ℕ) → drop (min n (length p)) p ≡ drop n p
 drop_min p n = go (ltb n (length p)) refl
@@ -26,7 +23,7 @@ drop_min p n = go (ltb n (length p)) refl
         let h = ltb-false n (length p) e in
         let d = length-drop (min n (length p)) p in
         let k = length-drop n p in
-        nothing (drop (min n (length p)) p) (omega arith) ∙ sym (nothing (drop n p) (omega arith))
+        nil_from_length (drop (min n (length p)) p) (omega arith) ∙ sym (nil_from_length (drop n p) (omega arith))
 
 take_min : (l : List ℕ) (n : ℕ) → take (min n (length l)) l ≡ take n l
 take_min l n = go (ltb n (length l)) refl
